@@ -1,0 +1,85 @@
+-- Each number of the table is one cause's. Assumes nothing.
+use Prim.Native.Nat.{ℕ}
+use mathlib.Core.Path.{_≡_, refl, sym, ap, _∙_}
+use mathlib.Core.List.{List, [], _∷_}
+use lib.ListN.{getD}
+use Rattle.cause.specs.Causes.{causeNumber}
+use Rattle.cause.specs.declared.Cause.{Cause}
+use Rattle.cause.specs.declared.Cause.the-variants.{
+  ContainerLength,
+  RoomTooSmall,
+  ReservedBitSet,
+  HeaderGrantForm,
+  StartInsideMessage,
+  UnknownMessage,
+  PlaceNotAllowed,
+  HeadWrong,
+  UnusedByteNotZero,
+  GapInGroup,
+  SecondMisc,
+  TooManyResponses,
+  GrantBesideActivation,
+  MissingPool,
+  BegunOverGranted,
+  GrantedOverCapacity,
+  BrokenRecord,
+  TooLong,
+  InvalidState,
+  ThirdContainer,
+}
+
+-- the causes by number; there is no cause 0
+causes : List Cause
+causes =
+    InvalidState
+    ∷ ContainerLength
+    ∷ RoomTooSmall
+    ∷ ReservedBitSet
+    ∷ HeaderGrantForm
+    ∷ StartInsideMessage
+    ∷ UnknownMessage
+    ∷ PlaceNotAllowed
+    ∷ HeadWrong
+    ∷ UnusedByteNotZero
+    ∷ GapInGroup
+    ∷ SecondMisc
+    ∷ TooManyResponses
+    ∷ GrantBesideActivation
+    ∷ MissingPool
+    ∷ BegunOverGranted
+    ∷ GrantedOverCapacity
+    ∷ BrokenRecord
+    ∷ TooLong
+    ∷ InvalidState
+    ∷ ThirdContainer
+    ∷ []
+
+numbered : ℕ → Cause
+numbered n = getD causes n InvalidState
+
+numbered-back : (c : Cause) → numbered (causeNumber c) ≡ c
+unfolding numbered causes
+numbered-back ContainerLength = refl
+numbered-back RoomTooSmall = refl
+numbered-back ReservedBitSet = refl
+numbered-back HeaderGrantForm = refl
+numbered-back StartInsideMessage = refl
+numbered-back UnknownMessage = refl
+numbered-back PlaceNotAllowed = refl
+numbered-back HeadWrong = refl
+numbered-back UnusedByteNotZero = refl
+numbered-back GapInGroup = refl
+numbered-back SecondMisc = refl
+numbered-back TooManyResponses = refl
+numbered-back GrantBesideActivation = refl
+numbered-back MissingPool = refl
+numbered-back BegunOverGranted = refl
+numbered-back GrantedOverCapacity = refl
+numbered-back BrokenRecord = refl
+numbered-back TooLong = refl
+numbered-back InvalidState = refl
+numbered-back ThirdContainer = refl
+
+-- two causes with one number are one
+pub same-number : (a b : Cause) → causeNumber a ≡ causeNumber b → a ≡ b
+same-number a b e = sym (numbered-back a) ∙ ap numbered e ∙ numbered-back b

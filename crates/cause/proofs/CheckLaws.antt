@@ -1,0 +1,40 @@
+-- No fault is found exactly where every check passes. Assumes nothing.
+use Prim.Native.Nat.{ℕ}
+use mathlib.Core.Path.{_≡_, refl}
+use mathlib.Core.Bool.{Bool, true, false}
+use mathlib.Core.List.{List, [], _∷_, _++_}
+use mathlib.Core.Logic.{⊎-elim, _↔_}
+use native.Mathlib.Omega.{arith}
+use Rattle.lists.proofs.Tests.{cases}
+use Rattle.cause.specs.Checks.{Check, check, firstFault, Pass}
+use Rattle.cause.specs.declared.Verdict.{Verdict}
+use Rattle.cause.specs.declared.Verdict.the-variants.{Sound, Faulty}
+
+pub pass-sound : (l : List Check) → Pass l → firstFault l ≡ Sound
+pass-sound [] p = refl
+pass-sound (k ∷ l) p = rw (p .0) (pass-sound l (p .1))
+
+pub sound-pass : (l : List Check) → firstFault l ≡ Sound → Pass l
+sound-pass [] e = tt
+sound-pass (k ∷ l) e = ⊎-elim (good (λ f. sound-pass l f)) bad (cases (k .passes))
+  where
+    good : (firstFault l ≡ Sound → Pass l) → k .passes ≡ true → Pass (k ∷ l)
+    good ih t = (t, ih (rw t at e))
+
+    bad : k .passes ≡ false → Pass (k ∷ l)
+    bad t = let f : Faulty (k .cause) (k .place) ≡ Sound = rw t at e in let z : _≡_ {A = ℕ} 0 1 = cc in absurd (omega arith)
+
+-- no fault ⇔ every check passes
+pub no-fault : (l : List Check) → (firstFault l ≡ Sound) ↔ Pass l
+no-fault l = (sound-pass l, pass-sound l)
+
+-- a verdict, and another where it is sound
+abbrev pub orElse : Verdict → Verdict → Verdict
+orElse Sound v = v
+orElse (Faulty c p) v = Faulty c p
+
+-- checks one list after the other
+pub first-append : (a b : List Check) → firstFault (a ++ b) ≡ orElse (firstFault a) (firstFault b)
+first-append [] b = refl
+first-append (k ∷ l) b =
+    ⊎-elim (λ (t : k .passes ≡ true). rw t (first-append l b)) (λ (t : k .passes ≡ false). rw t) (cases (k .passes))

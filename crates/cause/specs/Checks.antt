@@ -1,0 +1,28 @@
+-- Checks in order: the first that fails gives its cause and place.
+use Prim.Native.Nat.{ℕ}
+use mathlib.Core.Path.{_≡_}
+use mathlib.Core.Bool.{Bool, true}
+use mathlib.Core.List.{List, [], _∷_}
+use Rattle.lists.specs.Pick.{pick}
+use Rattle.cause.specs.declared.Cause.{Cause}
+use Rattle.cause.specs.declared.Verdict.{Verdict}
+use Rattle.cause.specs.declared.Verdict.the-variants.{Sound, Faulty}
+
+-- a test, and the cause and place that its failure gives
+pub record Check : Type 0 where
+  pub passes : Bool
+  pub cause : Cause
+  pub place : ℕ
+
+abbrev pub check : Bool → Cause → ℕ → Check
+check b c p = record { passes = b; cause = c; place = p }
+
+-- the first check that fails
+abbrev pub firstFault : List Check → Verdict
+firstFault [] = Sound
+firstFault (k ∷ l) = pick (k .passes) (firstFault l) (Faulty (k .cause) (k .place))
+
+-- every check passes
+abbrev pub Pass : List Check → Type 0
+Pass [] = Unit {0}
+Pass (k ∷ l) = (k .passes ≡ true) × Pass l
