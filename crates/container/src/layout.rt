@@ -1,0 +1,69 @@
+// Where the granules and the header bytes of a container lie.
+ghost use mathlib.Core.Path.{_≡_};
+ghost use Rattle.container.specs.Layout.{start, formatOf, header, msgStart, bit};
+use crate::bytes::byte_at;
+
+// The first byte of granule g.
+pub fn locate_granule(g: u8) -> usize
+    ensures { λ r. ⌜ r ≡ start g ⌝ }
+{
+    let third = g as usize;
+    64 * (third / 3) + 20 * (third % 3)
+}
+
+// The bytes of granule g.
+pub fn measure_granule(format: u32, g: u8) -> usize
+    ensures { λ r. ⌜ r ≡ formatOf format .size g ⌝ }
+{
+    if format == 0 {
+        return 20;
+    }
+    match g {
+        5 => 16,
+        11 => 10,
+        _ => 20,
+    }
+}
+
+// The place of header byte Pi.
+pub fn locate_header(format: u32, i: u8) -> usize
+    ensures { λ r. ⌜ r ≡ formatOf format .place i ⌝ }
+{
+    let at = i as usize;
+    if format != 0 {
+        return 246 + at;
+    }
+    if at < 2 {
+        return 126 + at;
+    }
+    if at < 6 {
+        return 186 + at;
+    }
+    246 + at
+}
+
+// Header byte Pi, 0 where the container ends before it.
+pub fn read_header(format: u32, container: &[u8], i: u8) -> u8
+    ensures { λ r. ⌜ r ≡ header (formatOf format) (now (container .entry)) i ⌝ }
+{
+    byte_at(container, locate_header(format, i))
+}
+
+// MsgStart, one bit a granule.
+pub fn read_starts(format: u32, container: &[u8]) -> u16
+    ensures { λ r. ⌜ r ≡ msgStart (formatOf format) (now (container .entry)) ⌝ }
+{
+    let low = read_header(format, container, 0) as u16;
+    let high = read_header(format, container, 1) as u16;
+    low + 256 * (high % 16)
+}
+
+// Whether bit g of MsgStart is set.
+pub fn starts_at(starts: u16, g: u8) -> bool
+    ensures { λ r. ⌜ r ≡ bit starts g ⌝ }
+{
+    if 15 < g {
+        return false;
+    }
+    (starts >> (g as u16)) % 2 == 1
+}

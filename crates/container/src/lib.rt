@@ -1,0 +1,20 @@
+// Container bytes: granules, protocol header and grant forms of both formats (document 01, "Container bytes").
+mod bytes;
+mod grant;
+mod layout;
+
+pub use bytes::byte_at;
+pub use bytes::is_zero;
+pub use grant::Grant;
+pub use grant::allows_plane;
+pub use grant::decode_grant;
+pub use grant::has_counts;
+pub use grant::is_form;
+pub use grant::keeps_reserved;
+pub use grant::read_grant;
+pub use layout::locate_granule;
+pub use layout::locate_header;
+pub use layout::measure_granule;
+pub use layout::read_header;
+pub use layout::read_starts;
+pub use layout::starts_at;
