@@ -1,0 +1,3 @@
+pub mod Heads
+pub mod Places
+pub mod Charges
