@@ -1,0 +1,4 @@
+pub mod NumberLaws
+pub mod EncodeLaws
+pub mod RecordLaws
+pub mod Marked
