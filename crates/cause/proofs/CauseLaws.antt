@@ -1,7 +1,8 @@
 -- Each number of the table is one cause's. Assumes nothing.
-use Prim.Native.Nat.{ℕ}
+use Prim.Native.Nat.{ℕ, _≤_}
 use mathlib.Core.Path.{_≡_, refl, sym, ap, _∙_}
 use mathlib.Core.List.{List, [], _∷_}
+use native.Mathlib.Omega.{arith}
 use lib.ListN.{getD}
 use Rattle.cause.specs.Causes.{causeNumber}
 use Rattle.cause.specs.declared.Cause.{Cause}
@@ -83,3 +84,26 @@ numbered-back ThirdContainer = refl
 -- two causes with one number are one
 pub same-number : (a b : Cause) → causeNumber a ≡ causeNumber b → a ≡ b
 same-number a b e = sym (numbered-back a) ∙ ap numbered e ∙ numbered-back b
+
+-- no number is over 20
+pub number-most : (c : Cause) → causeNumber c ≤ 20
+number-most ContainerLength = omega arith
+number-most RoomTooSmall = omega arith
+number-most ReservedBitSet = omega arith
+number-most HeaderGrantForm = omega arith
+number-most StartInsideMessage = omega arith
+number-most UnknownMessage = omega arith
+number-most PlaceNotAllowed = omega arith
+number-most HeadWrong = omega arith
+number-most UnusedByteNotZero = omega arith
+number-most GapInGroup = omega arith
+number-most SecondMisc = omega arith
+number-most TooManyResponses = omega arith
+number-most GrantBesideActivation = omega arith
+number-most MissingPool = omega arith
+number-most BegunOverGranted = omega arith
+number-most GrantedOverCapacity = omega arith
+number-most BrokenRecord = omega arith
+number-most TooLong = omega arith
+number-most InvalidState = omega arith
+number-most ThirdContainer = omega arith

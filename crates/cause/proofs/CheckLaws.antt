@@ -6,7 +6,7 @@ use mathlib.Core.List.{List, [], _∷_, _++_}
 use mathlib.Core.Logic.{⊎-elim, _↔_}
 use native.Mathlib.Omega.{arith}
 use Rattle.lists.proofs.Tests.{cases}
-use Rattle.cause.specs.Checks.{Check, check, firstFault, Pass}
+use Rattle.cause.specs.Checks.{Check, check, firstFault, Pass, orElse}
 use Rattle.cause.specs.declared.Verdict.{Verdict}
 use Rattle.cause.specs.declared.Verdict.the-variants.{Sound, Faulty}
 
@@ -28,13 +28,21 @@ sound-pass (k ∷ l) e = ⊎-elim (good (λ f. sound-pass l f)) bad (cases (k .p
 pub no-fault : (l : List Check) → (firstFault l ≡ Sound) ↔ Pass l
 no-fault l = (sound-pass l, pass-sound l)
 
--- a verdict, and another where it is sound
-abbrev pub orElse : Verdict → Verdict → Verdict
-orElse Sound v = v
-orElse (Faulty c p) v = Faulty c p
-
 -- checks one list after the other
 pub first-append : (a b : List Check) → firstFault (a ++ b) ≡ orElse (firstFault a) (firstFault b)
 first-append [] b = refl
 first-append (k ∷ l) b =
     ⊎-elim (λ (t : k .passes ≡ true). rw t (first-append l b)) (λ (t : k .passes ≡ false). rw t) (cases (k .passes))
+
+-- two lists of checks pass where both do
+pub pass-append : (a b : List Check) → Pass a → Pass b → Pass (a ++ b)
+pass-append [] b p q = q
+pass-append (k ∷ a) b p q = (p .0, pass-append a b (p .1) q)
+
+pub pass-front : (a b : List Check) → Pass (a ++ b) → Pass a
+pass-front [] b p = tt
+pass-front (k ∷ a) b p = (p .0, pass-front a b (p .1))
+
+pub pass-back : (a b : List Check) → Pass (a ++ b) → Pass b
+pass-back [] b p = p
+pass-back (k ∷ a) b p = pass-back a b (p .1)

@@ -26,3 +26,13 @@ firstFault (k ∷ l) = pick (k .passes) (firstFault l) (Faulty (k .cause) (k .pl
 abbrev pub Pass : List Check → Type 0
 Pass [] = Unit {0}
 Pass (k ∷ l) = (k .passes ≡ true) × Pass l
+
+-- a where the verdict is sound, else b
+abbrev pub whenSound : {A : Type 0} → Verdict → A → A → A
+whenSound Sound a b = a
+whenSound (Faulty c p) a b = b
+
+-- a verdict, and another where it is sound
+abbrev pub orElse : Verdict → Verdict → Verdict
+orElse Sound v = v
+orElse (Faulty c p) v = Faulty c p

@@ -76,6 +76,11 @@ pub written-read : (n : ℕ) (l : List ℕ) → n ≤ largest → readNumber (nu
 unfolding readNumber number
 written-read n l h = groups-read 4 n l (omega arith) h
 
+-- a number below 128 is one byte
+pub number-small : (n : ℕ) → n < 128 → number n ≡ n ∷ []
+unfolding number
+number-small n h = rw (lt-ltb n 128 h)
+
 -- ---- what was read is what is written
 
 -- a number of u bytes stands at the front of l

@@ -138,6 +138,11 @@ first-none l e = rw (length-zero l e)
 
 -- ---- a whole list
 
+-- records of messages one behind the other
+pub records-append : (a b : List (List ℕ)) → recordsOf (a ++ b) ≡ recordsOf a ++ recordsOf b
+records-append [] b = refl
+records-append (m ∷ a) b = ap (λ (r : List ℕ). recordOf m ++ r) (records-append a b) ∙ sym (append-assoc (recordOf m) (recordsOf a) (recordsOf b))
+
 -- a list of records: the messages that it is made of
 pub record Listed (l : List ℕ) : Type 0 where
   pub messages : List (List ℕ)

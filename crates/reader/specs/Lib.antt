@@ -1,0 +1,5 @@
+pub mod Cells
+pub mod Checking
+pub mod Reading
+pub mod Keeps
+pub mod Tracking

@@ -1,0 +1,99 @@
+-- Reading (document 01, "The writer's one way", last paragraph, and "Causes and places"): states, answers and lent room.
+use Prim.Native.Nat.{ℕ, _%_}
+use mathlib.Core.Bool.{Bool, _&&_, _||_}
+use mathlib.Core.List.{List, [], _∷_, _++_}
+use lib.ListN.{length, take, drop, replicate}
+use lib.Dec.{eqb, ltb, leb}
+use Rattle.lists.specs.Pick.{pick}
+use Rattle.lists.specs.Parts.{zeros, pad, put}
+use Rattle.cause.specs.Checks.{Check, check, firstFault, whenSound}
+use Rattle.cause.specs.declared.Verdict.{Verdict}
+use Rattle.cause.specs.declared.Verdict.the-variants.{Sound, Faulty}
+use Rattle.cause.specs.declared.Cause.the-variants.{ContainerLength, RoomTooSmall, InvalidState}
+use Rattle.container.specs.Layout.{Format, formatOf, msgStart}
+use Rattle.container.specs.Grants.{headerGrant}
+use Rattle.container.specs.declared.grant.Grant.{Grant}
+use Rattle.message.specs.Heads.{msgSize, wellHeaded}
+use Rattle.record.specs.Records.{recordsOf}
+use Rattle.reader.specs.Cells.{Cell, cells, carryAfter, endings}
+use Rattle.reader.specs.Checking.{containerChecks}
+use Rattle.reader.specs.declared.reader.Reader.{Reader}
+use Rattle.reader.specs.declared.reader.Answer.{Answer}
+use Rattle.reader.specs.declared.reader.Answer.the-variants as answer
+use Rattle.reader.specs.declared.reader.Step.{Step}
+use Rattle.reader.specs.declared.reader.Judgement.{Judgement}
+use Rattle.reader.specs.declared.reader.Judgement.the-variants as judgement
+use Rattle.reader.specs.declared.reader.Judged.{Judged}
+use Rattle.reader.specs.declared.reader.Opened.{Opened}
+
+-- a carry: empty, or the first 20k bytes (k at least 1, never all) of a well-headed longer message
+abbrev pub carryOk : List ℕ → Bool
+carryOk m = eqb (length m) 0 || (eqb (length m % 20) 0 && (ltb (length m) (msgSize m) && wellHeaded m))
+
+-- the bytes that a reader carries
+abbrev pub carried : Reader → List ℕ
+carried s = take (s .len) (s .carry)
+
+-- a valid reader: a format, and a carry of at most 100 bytes with zeros behind
+abbrev pub readerOk : Reader → Bool
+readerOk s = ltb (s .format) 2 && (leb (s .len) 100 && (carryOk (carried s) && zeros (drop (s .len) (s .carry))))
+
+-- a reader of a format that carries m
+abbrev pub readerWith : ℕ → List ℕ → Reader
+readerWith f m = record { format = f; carry = pad 100 m; len = length m }
+
+-- a reader's start: nothing carried; a format that is none is 19, beside a reader that every step refuses
+abbrev pub opened : ℕ → Opened
+opened f = record { reader = readerWith f []; verdict = pick (ltb f 2) Sound (Faulty InvalidState 0) }
+
+-- 19, 1
+abbrev pub entryChecks : Reader → ℕ → List Check
+entryChecks s n = check (readerOk s) InvalidState 0 ∷ check (eqb n 256) ContainerLength 0 ∷ []
+
+-- the checks of a container from a state
+unfoldable pub stateChecks : Reader → List ℕ → List Check
+stateChecks s c = containerChecks (formatOf (s .format)) (carried s) c (cells (formatOf (s .format)) c 12 0 (carried s))
+
+-- judging: 19, 1, then the container
+unfoldable pub judgeChecks : Reader → List ℕ → List Check
+judgeChecks s c = entryChecks s (length c) ++ stateChecks s c
+
+-- reading with a room of n bytes: 19, 1, 2, then the container
+unfoldable pub readChecks : Reader → List ℕ → ℕ → List Check
+readChecks s c n = entryChecks s (length c) ++ (check (leb 352 n) RoomTooSmall 0 ∷ stateChecks s c)
+
+-- the reader after a container: what was read of a message that goes on is carried
+unfoldable pub nextReader : Reader → List ℕ → Reader
+nextReader s c =
+    readerWith (s .format) (carryAfter (formatOf (s .format)) 0 (cells (formatOf (s .format)) c 12 0 (carried s)) (carried s))
+
+-- the messages that end in a container, as records
+unfoldable pub records : Reader → List ℕ → List ℕ
+records s c = recordsOf (endings (formatOf (s .format)) 0 (cells (formatOf (s .format)) c 12 0 (carried s)) (carried s))
+
+-- an accepted container answers the length written and the header grant; a refusal its cause and place
+abbrev pub answerOf : Verdict → ℕ → Grant → Answer
+answerOf Sound n grant = answer.Done n grant
+answerOf (Faulty c p) n grant = answer.Refused c p
+
+-- reading with a room of n bytes: answer and next reader
+unfoldable pub reading : Reader → List ℕ → ℕ → Step
+reading s c n = record {
+  reader = whenSound (firstFault (readChecks s c n)) (nextReader s c) s;
+  answer = answerOf (firstFault (readChecks s c n)) (length (records s c)) (headerGrant (formatOf (s .format)) c);
+}
+
+-- the room after a reading: the records at its front, or as it was
+unfoldable pub readRoom : Reader → List ℕ → List ℕ → List ℕ
+readRoom s c room = whenSound (firstFault (readChecks s c (length room))) (put 0 (records s c) room) room
+
+-- judging without room: an accepted container answers the header grant and MsgStart
+abbrev pub judgementOf : Verdict → Grant → ℕ → Judgement
+judgementOf Sound grant starts = judgement.Accepted grant starts
+judgementOf (Faulty c p) grant starts = judgement.Refused c p
+
+unfoldable pub judging : Reader → List ℕ → Judged
+judging s c = record {
+  reader = whenSound (firstFault (judgeChecks s c)) (nextReader s c) s;
+  judgement = judgementOf (firstFault (judgeChecks s c)) (headerGrant (formatOf (s .format)) c) (msgStart (formatOf (s .format)) c);
+}

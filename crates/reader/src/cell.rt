@@ -1,0 +1,114 @@
+// One granule judged: causes 5 to 9.
+ghost use mathlib.Core.Path.{_≡_};
+ghost use mathlib.Core.Bool.{true, false, _&&_};
+ghost use Prim.Native.Nat.{_<_};
+ghost use lib.ListN.{length, drop};
+ghost use lib.Dec.{ltb, eqb};
+ghost use Rattle.lists.specs.Parts.{zeros};
+ghost use Rattle.container.specs.Layout.{formatOf, wide, bit, granule};
+ghost use Rattle.reader.specs.Tracking.{cellFrom, finding, startMark};
+use cause::Cause;
+use container::byte_at;
+use container::is_zero;
+use container::locate_granule;
+use container::measure_granule;
+use container::starts_at;
+use message::count_miscs;
+use message::count_responses;
+use message::is_misc;
+use message::is_well_headed;
+use message::may_start;
+use message::measure_code;
+
+// What judging a granule finds: a fault, or the mark that its group and the header are judged by.
+pub enum Finding {
+    Fault(Cause),
+    Mark(u8),
+}
+
+// The mark of a granule where a message of this type and op starts.
+fn mark_start(kind: u8, op: u8) -> u8
+    ensures { λ r. ⌜ r ≡ startMark kind op ⌝ }
+{
+    let counts = 1 + 4 * count_responses(kind) + 32 * count_miscs(kind);
+    if is_misc(kind, op, 1) {
+        return (counts + 128) as u8;
+    }
+    counts as u8
+}
+
+// Whether all bytes from `from` on are zero.
+fn has_zero_rest(part: &[u8], from: usize) -> bool
+    ensures { λ r. ⌜ r ≡ zeros (drop from (now (part .entry))) ⌝ }
+{
+    if from < part.len() {
+        return is_zero(&part[from..]);
+    }
+    true
+}
+
+// A granule where a message starts and none goes on.
+fn judge_start(format: u32, g: u8, part: &[u8]) -> Finding
+    requires { ⌜ (g < 12) × (length (now part) ≡ formatOf format .size g) ⌝ }
+    ensures { λ r. ⌜ r ≡ finding (formatOf format) g (cellFrom false true (now (part .entry))) ⌝ }
+{
+    let kind = byte_at(part, 0) % 16;
+    let op = byte_at(part, 1);
+    let size = measure_code(kind, op);
+    if size == 0 {
+        return Finding::Fault(Cause::UnknownMessage);
+    }
+    if !may_start(format, g, kind, op) {
+        return Finding::Fault(Cause::PlaceNotAllowed);
+    }
+    if !is_well_headed(part) {
+        return Finding::Fault(Cause::HeadWrong);
+    }
+    if !has_zero_rest(part, size) {
+        return Finding::Fault(Cause::UnusedByteNotZero);
+    }
+    Finding::Mark(mark_start(kind, op))
+}
+
+// A granule of these bytes.
+fn judge_part(format: u32, g: u8, on: bool, start: bool, part: &[u8]) -> Finding
+    requires { ⌜ (g < 12) × (length (now part) ≡ formatOf format .size g) ⌝ }
+    requires { ⌜ (on ≡ true → formatOf format .size g ≡ 20) ⌝ }
+    ensures { λ r. ⌜ r ≡ finding (formatOf format) g (cellFrom on start (now (part .entry))) ⌝ }
+{
+    if on {
+        if start {
+            return Finding::Fault(Cause::StartInsideMessage);
+        }
+        return Finding::Mark(1);
+    }
+    if start {
+        return judge_start(format, g, part);
+    }
+    if is_zero(part) {
+        return Finding::Mark(0);
+    }
+    Finding::Fault(Cause::UnusedByteNotZero)
+}
+
+// Whether a message of which so much is owed goes on in a granule of this size.
+fn goes_on(size: usize, owed: usize) -> bool
+    ensures { λ r. ⌜ r ≡ (ltb 0 owed && eqb size 20) ⌝ }
+{
+    if 0 < owed {
+        return size == 20;
+    }
+    false
+}
+
+// Granule g of a container, with so many bytes owed of the message in progress.
+pub fn judge_cell(format: u32, starts: u16, container: &[u8], owed: usize, g: u8) -> Finding
+    requires { ⌜ (length (now container) ≡ 256) × (g < 12) ⌝ }
+    ensures { λ r. ⌜ r ≡ finding (formatOf format) g (cellFrom (ltb 0 owed && wide (formatOf format) g) (bit starts g) (granule (formatOf format) g (now (container .entry)))) ⌝ }
+{
+    let size = measure_granule(format, g);
+    let a = locate_granule(g);
+    let end = a + size;
+    let on = goes_on(size, owed);
+    judge_part(format, g, on, starts_at(starts, g), &container[a..end])
+}

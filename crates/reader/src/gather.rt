@@ -1,0 +1,85 @@
+// Bytes of a message gathered from the granules that it lies in.
+ghost use mathlib.Core.Path.{_≡_};
+ghost use Prim.Native.Nat.{_+_, _≤_};
+ghost use lib.ListN.{length};
+ghost use Rattle.lists.specs.Parts.{put, pad};
+ghost use Rattle.container.specs.Layout.{formatOf};
+ghost use Rattle.reader.specs.Tracking.{gathered, gatheredMessage, inProgress};
+use crate::track::Track;
+use container::locate_granule;
+use container::measure_granule;
+
+// Copies a part into lent memory from an offset on.
+pub fn copy_part(out: &mut [u8], at: usize, part: &[u8])
+    requires { ⌜ at + length (now part) ≤ length (now out) ⌝ }
+    ensures { λ _. ⌜ now (out .exit) ≡ put at (now (part .entry)) (now (out .entry)) ⌝ }
+{
+    let mut i = 0;
+    while i < part.len() {
+        out[at + i] = part[i];
+        i += 1;
+    }
+}
+
+// Copies the wide ones among `count` granules from `from` on into lent memory from an offset on.
+pub fn gather_granules(
+    format: u32,
+    container: &[u8],
+    from: u8,
+    count: u8,
+    out: &mut [u8],
+    at: usize,
+)
+    requires { ⌜ (length (now container) ≡ 256) × (from + count ≤ 12) ⌝ }
+    requires { ⌜ at + length (gathered (formatOf format) (now container) from count) ≤ length (now out) ⌝ }
+    ensures { λ _. ⌜ now (out .exit) ≡ put at (gathered (formatOf format) (now (container .entry)) from count) (now (out .entry)) ⌝ }
+{
+    let mut k: u8 = 0;
+    let mut end = at;
+    while k < count {
+        let g = from + k;
+        if measure_granule(format, g) == 20 {
+            let a = locate_granule(g);
+            let behind = a + 20;
+            copy_part(out, end, &container[a..behind]);
+            end += 20;
+        }
+        k += 1;
+    }
+}
+
+// Copies the message in progress, read up to granule g, into lent memory from an offset on.
+pub fn gather_message(
+    format: u32,
+    container: &[u8],
+    carry: &[u8],
+    track: Track,
+    g: u8,
+    out: &mut [u8],
+    at: usize,
+)
+    requires { ⌜ (length (now container) ≡ 256) × (track .kept ≤ length (now carry)) ⌝ }
+    requires { ⌜ (track .from ≤ g) × (g ≤ 12) ⌝ }
+    requires { ⌜ at + length (gatheredMessage (formatOf format) (now container) (now carry) track g) ≤ length (now out) ⌝ }
+    ensures { λ _. ⌜ now (out .exit) ≡ put at (gatheredMessage (formatOf format) (now (container .entry)) (now (carry .entry)) track g) (now (out .entry)) ⌝ }
+{
+    let kept = track.kept;
+    let from = track.from;
+    copy_part(out, at, &carry[0..kept]);
+    gather_granules(format, container, from, g - from, out, at + kept);
+}
+
+// What is carried on of the message in progress behind a container, with zeros behind it.
+pub fn gather_carry(format: u32, container: &[u8], carry: &[u8], track: Track) -> [u8; 100]
+    requires { ⌜ (length (now container) ≡ 256) × (track .kept ≤ length (now carry)) ⌝ }
+    requires { ⌜ track .from ≤ 12 ⌝ }
+    requires { ⌜ length (inProgress (formatOf format) (now container) (now carry) track 12) ≤ 100 ⌝ }
+    ensures { λ r. ⌜ r ≡ pad 100 (inProgress (formatOf format) (now (container .entry)) (now (carry .entry)) track 12) ⌝ }
+{
+    let mut out = [0u8; 100];
+    if track.owed == 0 {
+        return out;
+    }
+    gather_message(format, container, carry, track, 12, &mut out, 0);
+    out
+}

@@ -1,0 +1,16 @@
+// Reading containers: judged granule by granule, the finished messages written as records to lent room (document 01, "Placement").
+mod cell;
+mod gather;
+mod group;
+mod judge;
+mod reader;
+mod records;
+mod scan;
+mod track;
+
+pub use reader::Answer;
+pub use reader::Judged;
+pub use reader::Judgement;
+pub use reader::Opened;
+pub use reader::Reader;
+pub use reader::Step;

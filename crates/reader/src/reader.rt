@@ -1,0 +1,241 @@
+// The reader: a state by value, and the two ways to hand it a container.
+ghost use mathlib.Core.Path.{_≡_};
+ghost use mathlib.Core.Bool.{true};
+ghost use lib.ListN.{length};
+ghost use Rattle.cause.specs.Checks.{firstFault, Pass};
+ghost use Rattle.container.specs.Layout.{formatOf, msgStart};
+ghost use Rattle.reader.specs.Cells.{cells};
+ghost use Rattle.reader.specs.Checking.{granuleChecks};
+ghost use Rattle.reader.specs.Reading.{readerOk, carryOk, carried, entryChecks, opened, nextReader, reading, readRoom, judging};
+ghost use Rattle.reader.specs.Tracking.{trackOf, trackAt};
+use crate::gather::gather_carry;
+use crate::judge::judge_container;
+use crate::records::write_endings;
+use crate::track::Track;
+use cause::Cause;
+use cause::Verdict;
+use container::Grant;
+use container::is_zero;
+use container::read_grant;
+use container::read_starts;
+use message::is_well_headed;
+use message::measure_message;
+
+// A format, and what was read of a message that goes on in the next container, with zeros behind.
+pub struct Reader {
+    pub format: u32,
+    pub carry: [u8; 100],
+    pub len: usize,
+}
+
+// The answer of a reading: the length written and the header grant, or the refusal.
+pub enum Answer {
+    Done { length: usize, grant: Grant },
+    Refused { cause: Cause, place: u64 },
+}
+
+// The next reader and the answer.
+pub struct Step {
+    pub reader: Reader,
+    pub answer: Answer,
+}
+
+// The answer of a judging: the header grant and MsgStart, or the refusal.
+pub enum Judgement {
+    Accepted { grant: Grant, starts: u16 },
+    Refused { cause: Cause, place: u64 },
+}
+
+// The next reader and the judgement.
+pub struct Judged {
+    pub reader: Reader,
+    pub judgement: Judgement,
+}
+
+// A new reader, and whether its format is one.
+pub struct Opened {
+    pub reader: Reader,
+    pub verdict: Verdict,
+}
+
+// Whether bytes may be carried.
+fn is_carry(carry: &[u8]) -> bool
+    ensures { λ r. ⌜ r ≡ carryOk (now (carry .entry)) ⌝ }
+{
+    if carry.len() == 0 {
+        return true;
+    }
+    if carry.len() % 20 != 0 {
+        return false;
+    }
+    if measure_message(carry) <= carry.len() {
+        return false;
+    }
+    is_well_headed(carry)
+}
+
+impl Reader {
+    // A reader of a format, with nothing carried.
+    pub fn fresh(format: u32) -> Opened
+        ensures { λ r. ⌜ r ≡ opened format ⌝ }
+    {
+        let reader = Reader {
+            format: format,
+            carry: [0u8; 100],
+            len: 0,
+        };
+        if format < 2 {
+            return Opened {
+                reader: reader,
+                verdict: Verdict::Sound,
+            };
+        }
+        Opened {
+            reader: reader,
+            verdict: Verdict::Faulty(Cause::InvalidState, 0),
+        }
+    }
+
+    // Whether the state is valid.
+    fn is_valid(self) -> bool
+        ensures { λ r. ⌜ r ≡ readerOk self ⌝ }
+    {
+        let len = self.len;
+        let carry = self.carry;
+        if 2 <= self.format {
+            return false;
+        }
+        if 100 < len {
+            return false;
+        }
+        if is_carry(&carry[0..len]) {
+            return is_zero(&carry[len..]);
+        }
+        false
+    }
+
+    // The state and the length of a container: causes 19 and 1.
+    fn check_entry(self, length: usize) -> Verdict
+        ensures { λ r. ⌜ r ≡ firstFault (entryChecks self length) ⌝ }
+    {
+        if !self.is_valid() {
+            return Verdict::Faulty(Cause::InvalidState, 0);
+        }
+        if length != 256 {
+            return Verdict::Faulty(Cause::ContainerLength, 0);
+        }
+        Verdict::Sound
+    }
+
+    // The reader behind an accepted container.
+    fn carry_on(self, container: &[u8], track: Track) -> Reader
+        requires { ⌜ (readerOk self ≡ true) × (length (now container) ≡ 256) ⌝ }
+        requires { ⌜ Pass (granuleChecks (formatOf (self .format)) 0 (cells (formatOf (self .format)) (now container) 12 0 (carried self))) ⌝ }
+        requires { ⌜ track ≡ trackAt (formatOf (self .format)) (now container) (msgStart (formatOf (self .format)) (now container)) (trackOf (carried self)) 12 ⌝ }
+        ensures { λ r. ⌜ r ≡ nextReader self (now (container .entry)) ⌝ }
+    {
+        let format = self.format;
+        let carry = self.carry;
+        let len = self.len;
+        let next = gather_carry(format, container, &carry[0..len], track);
+        Reader {
+            format: format,
+            carry: next,
+            len: track.count_read(),
+        }
+    }
+
+    // A container of 256 bytes, from a valid state.
+    fn judge_valid(self, container: &[u8]) -> Judged
+        requires { ⌜ (readerOk self ≡ true) × (length (now container) ≡ 256) ⌝ }
+        ensures { λ r. ⌜ r ≡ judging self (now (container .entry)) ⌝ }
+    {
+        let format = self.format;
+        let carry = self.carry;
+        let len = self.len;
+        let starts = read_starts(format, container);
+        let grant = read_grant(format, container);
+        let scan = judge_container(format, starts, grant, container, &carry[0..len]);
+        let verdict = scan.verdict;
+        if let Verdict::Faulty(cause, place) = verdict {
+            return Judged {
+                reader: self,
+                judgement: Judgement::Refused {
+                    cause: cause,
+                    place: place,
+                },
+            };
+        }
+        let track = scan.track;
+        Judged {
+            reader: self.carry_on(container, track),
+            judgement: Judgement::Accepted {
+                grant: grant,
+                starts: starts,
+            },
+        }
+    }
+
+    // Judges a container without room and without copying its messages.
+    pub fn judge(self, container: &[u8]) -> Judged
+        ensures { λ r. ⌜ r ≡ judging self (now (container .entry)) ⌝ }
+    {
+        let entry = self.check_entry(container.len());
+        if let Verdict::Faulty(cause, place) = entry {
+            return Judged {
+                reader: self,
+                judgement: Judgement::Refused {
+                    cause: cause,
+                    place: place,
+                },
+            };
+        }
+        self.judge_valid(container)
+    }
+
+    // A refused reading.
+    fn refuse(self, cause: Cause, place: u64) -> Step
+        ensures { λ r. ⌜ r ≡ record { reader = self; answer = Answer.Refused cause place } ⌝ }
+    {
+        Step {
+            reader: self,
+            answer: Answer::Refused {
+                cause: cause,
+                place: place,
+            },
+        }
+    }
+
+    // Reads a container: the messages that end in it stand as records at the front of the room.
+    pub fn read(self, container: &[u8], room: &mut [u8]) -> Step
+        ensures step { λ r. ⌜ r ≡ reading self (now (container .entry)) (length (now (room .entry))) ⌝ }
+        ensures room { λ _. ⌜ now (room .exit) ≡ readRoom self (now (container .entry)) (now (room .entry)) ⌝ }
+    {
+        let entry = self.check_entry(container.len());
+        if let Verdict::Faulty(cause, place) = entry {
+            return self.refuse(cause, place);
+        }
+        if room.len() < 352 {
+            return self.refuse(Cause::RoomTooSmall, 0);
+        }
+        let judged = self.judge_valid(container);
+        let judgement = judged.judgement;
+        match judgement {
+            Judgement::Refused { cause, place } => self.refuse(cause, place),
+            Judgement::Accepted { grant, starts } => {
+                let format = self.format;
+                let carry = self.carry;
+                let len = self.len;
+                let length = write_endings(format, starts, container, &carry[0..len], room);
+                let next = judged.reader;
+                Step {
+                    reader: next,
+                    answer: Answer::Done {
+                        length: length,
+                        grant: grant,
+                    },
+                }
+            }
+        }
+    }
+}

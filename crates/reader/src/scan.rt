@@ -1,0 +1,51 @@
+// The granule pass: each granule judged, its mark kept, the message in progress followed by numbers.
+ghost use mathlib.Core.Path.{_≡_};
+ghost use lib.ListN.{length};
+ghost use Rattle.container.specs.Layout.{formatOf, msgStart};
+ghost use Rattle.reader.specs.Tracking.{Scanned, Begun};
+use crate::cell::Finding;
+use crate::cell::judge_cell;
+use crate::track::Track;
+use cause::Verdict;
+
+// The first fault, the marks of the granules, and the message in progress behind them.
+pub struct Scan {
+    pub verdict: Verdict,
+    pub marks: [u8; 12],
+    pub track: Track,
+}
+
+// All granules of a container, upwards.
+pub fn scan_granules(format: u32, starts: u16, container: &[u8], carry: &[u8]) -> Scan
+    requires { ⌜ length (now container) ≡ 256 ⌝ }
+    requires { ⌜ starts ≡ msgStart (formatOf format) (now container) ⌝ }
+    requires { ⌜ Begun (now carry) ⌝ }
+    ensures { λ r. ⌜ Scanned format (now (container .entry)) (now (carry .entry)) r ⌝ }
+{
+    let mut marks = [0u8; 12];
+    let mut track = Track::carried(carry);
+    let mut g: u8 = 0;
+    while g < 12 {
+        let owed = track.owed;
+        let found = judge_cell(format, starts, container, owed, g);
+        match found {
+            Finding::Fault(cause) => {
+                return Scan {
+                    verdict: Verdict::Faulty(cause, g as u64),
+                    marks: marks,
+                    track: track,
+                };
+            }
+            Finding::Mark(mark) => {
+                marks[g as usize] = mark;
+            }
+        }
+        track = track.pass(format, starts, container, g);
+        g += 1;
+    }
+    Scan {
+        verdict: Verdict::Sound,
+        marks: marks,
+        track: track,
+    }
+}

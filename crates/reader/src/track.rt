@@ -1,0 +1,116 @@
+// The message in progress, by numbers.
+ghost use mathlib.Core.Path.{_≡_};
+ghost use Prim.Native.Nat.{_<_, _≤_, _-_};
+ghost use lib.Dec.{eqb, leb};
+ghost use Rattle.lists.specs.Pick.{pick};
+ghost use lib.ListN.{length};
+ghost use Rattle.container.specs.Layout.{formatOf};
+ghost use Rattle.reader.specs.Tracking.{noTrack, trackOf, trackAfter};
+use container::locate_granule;
+use container::measure_granule;
+use container::starts_at;
+use message::measure_message;
+
+// What is owed of it, its size, the granule from which on it is read, and how many bytes of the old carry belong to it.
+pub struct Track {
+    pub owed: usize,
+    pub size: usize,
+    pub from: u8,
+    pub kept: usize,
+}
+
+impl Track {
+    // No message is in progress.
+    pub fn none() -> Track
+        ensures { λ r. ⌜ r ≡ noTrack ⌝ }
+    {
+        Track {
+            owed: 0,
+            size: 0,
+            from: 0,
+            kept: 0,
+        }
+    }
+
+    // A message that is carried in.
+    pub fn carried(carry: &[u8]) -> Track
+        ensures { λ r. ⌜ r ≡ trackOf (now (carry .entry)) ⌝ }
+    {
+        let size = measure_message(carry);
+        let kept = carry.len();
+        if size < kept {
+            return Track {
+                owed: 0,
+                size: size,
+                from: 0,
+                kept: kept,
+            };
+        }
+        Track {
+            owed: size - kept,
+            size: size,
+            from: 0,
+            kept: kept,
+        }
+    }
+
+    // How many bytes of it were read.
+    pub fn count_read(self) -> usize
+        requires { ⌜ self .owed ≤ self .size ⌝ }
+        ensures { λ r. ⌜ r ≡ pick (eqb (self .owed) 0) 0 (self .size - self .owed) ⌝ }
+    {
+        if self.owed == 0 {
+            return 0;
+        }
+        self.size - self.owed
+    }
+
+    // One granule less is owed.
+    fn advance(self) -> Track
+        ensures { λ r. ⌜ r ≡ pick (leb (self .owed) 20) noTrack (record { owed = self .owed - 20; size = self .size; from = self .from; kept = self .kept }) ⌝ }
+    {
+        if self.owed <= 20 {
+            return Track::none();
+        }
+        Track {
+            owed: self.owed - 20,
+            size: self.size,
+            from: self.from,
+            kept: self.kept,
+        }
+    }
+
+    // A message of this size starts in granule g.
+    fn start(g: u8, size: usize) -> Track
+        ensures { λ r. ⌜ r ≡ pick (leb size 20) noTrack (record { owed = size - 20; size = size; from = g; kept = 0 }) ⌝ }
+    {
+        if size <= 20 {
+            return Track::none();
+        }
+        Track {
+            owed: size - 20,
+            size: size,
+            from: g,
+            kept: 0,
+        }
+    }
+
+    // The message in progress after granule g.
+    pub fn pass(self, format: u32, starts: u16, container: &[u8], g: u8) -> Track
+        requires { ⌜ (length (now container) ≡ 256) × (g < 12) ⌝ }
+        ensures { λ r. ⌜ r ≡ trackAfter (formatOf format) (now (container .entry)) starts g self ⌝ }
+    {
+        if measure_granule(format, g) != 20 {
+            return self;
+        }
+        if 0 < self.owed {
+            return self.advance();
+        }
+        if starts_at(starts, g) {
+            let a = locate_granule(g);
+            let end = a + 20;
+            return Track::start(g, measure_message(&container[a..end]));
+        }
+        self
+    }
+}
