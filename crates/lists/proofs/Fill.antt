@@ -2,11 +2,13 @@
 -- Assumes nothing.
 use mathlib.Core.Path.{_≡_, refl, ap}
 use mathlib.Core.List.{List, [], _∷_, _++_}
-use Prim.Native.Nat.{ℕ, zero, suc, _+_, _<_, _≤_}
+use Prim.Native.Nat.{ℕ, zero, suc, _+_, _-_, _<_, _≤_}
 use native.Mathlib.Nat.{not-suc-le-zero, le-of-suc-le-suc}
 use native.Mathlib.Numerals.{add-one}
 use native.Mathlib.Omega.{arith}
-use lib.ListN.{length, set, take, drop, getD}
+use lib.ListN.{length, set, take, drop, getD, replicate}
+use lib.Seq.{take-append-seam}
+use Rattle.lists.specs.Parts.{pad}
 
 module _ {A : Type 0} where
   abbrev pub grown : List A → List A → ℕ → List A
@@ -38,3 +40,12 @@ module _ {A : Type 0} where
   grown-all (a ∷ t) [] i e h = absurd (omega arith)
   grown-all (a ∷ t) (b ∷ d) zero e h = absurd (omega arith)
   grown-all (a ∷ t) (b ∷ d) (suc i) e h = ap (λ (l : List A). a ∷ l) (grown-all t d i (omega arith) (omega arith))
+
+drop-zeros : (k n : ℕ) → drop {A = ℕ} k (replicate n 0) ≡ replicate (n - k) 0
+drop-zeros zero n = let e : n - 0 ≡ n = omega arith in rw e
+drop-zeros (suc k) zero = let e : 0 - suc k ≡ 0 = omega arith in rw e
+drop-zeros (suc k) (suc n) = let e : suc n - suc k ≡ n - k = omega arith in rw e (drop-zeros k n)
+
+-- zeros whose front has become x are x with zeros behind
+pub grown-pad : (n : ℕ) (x : List ℕ) → grown (pad n x) (replicate n 0) (length x) ≡ pad n x
+grown-pad n x = rw (take-append-seam x (replicate (n - length x) 0), drop-zeros (length x) n)

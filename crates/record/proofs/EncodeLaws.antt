@@ -14,7 +14,7 @@ use borrow.Author.Tests.{lt-ltb, le-ltb, ltb-true, ltb-false}
 use Rattle.lists.specs.Parts.{pad}
 use Rattle.lists.proofs.Tests.{cases}
 use Rattle.lists.proofs.PartLaws.{length-pad, getD-pad}
-use Rattle.lists.proofs.Fill.{grown, grown-more}
+use Rattle.lists.proofs.Fill.{grown, grown-more, grown-pad}
 use Rattle.record.specs.Number.{groups, number, encoded}
 use Rattle.record.specs.declared.number.Encoded.{Encoded}
 
@@ -23,11 +23,6 @@ groups-length zero n = (omega arith, λ h. h)
 groups-length (suc k) n =
     let h = groups-length k (n / 128) in
     ⊎-elim (λ (t : ltb n 128 ≡ true). rw t (omega arith, λ _. omega arith)) (λ (t : ltb n 128 ≡ false). rw t (omega arith, λ _. omega arith)) (cases (ltb n 128))
-
-drop-zeros : (k n : ℕ) → drop {A = ℕ} k (replicate n 0) ≡ replicate (n - k) 0
-drop-zeros zero n = let e : n - 0 ≡ n = omega arith in rw e
-drop-zeros (suc k) zero = let e : 0 - suc k ≡ 0 = omega arith in rw e
-drop-zeros (suc k) (suc n) = let e : suc n - suc k ≡ n - k = omega arith in rw e (drop-zeros k n)
 
 -- len groups are written, and rest is what the groups behind them hold
 pub record Encoding (value : ℕ) (bytes : List ℕ) (rest len : ℕ) : Type 0 where
@@ -97,11 +92,9 @@ module _ (value : ℕ) (bytes : List ℕ) (rest len : ℕ) (h : Encoding value b
       let n : length (number value) ≡ len + 1 = long (ap length l) in
       let b : set bytes len rest ≡ pad 5 (number value) =
       store value len rest bytes (omega arith) (h .made) (next-byte value len rest [] l)
-      ∙ ap (grown (pad 5 (number value)) (replicate 5 0)) (sym n) ∙ whole in
+      ∙ ap (grown (pad 5 (number value)) (replicate 5 0)) (sym n) ∙ grown-pad 5 (number value) in
       λ i. record { bytes = b i; len = sym n i }
     where
       long : length (drop len (number value)) ≡ 1 → length (number value) ≡ len + 1
       long e = let k = length-drop len (number value) in omega arith
 
-      whole : grown (pad 5 (number value)) (replicate 5 0) (length (number value)) ≡ pad 5 (number value)
-      whole = rw (take-append-seam (number value) (replicate (5 - length (number value)) 0), drop-zeros (length (number value)) 5)

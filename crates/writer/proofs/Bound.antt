@@ -1,0 +1,391 @@
+-- With grants of nothing each container finishes a message: n messages take at most n containers, so at most 2n. Assumes nothing.
+use Prim.Native.Nat.{ℕ, zero, suc, _+_, _-_, _*_, _%_, _≤_, _<_}
+use mathlib.Core.Path.{_≡_, refl, sym, ap, _∙_, subst}
+use mathlib.Core.Bool.{true, false, not}
+use mathlib.Core.List.{List, [], _∷_, _++_}
+use mathlib.Core.Logic.{_⊎_, inl, inr, ⊎-elim}
+use native.Mathlib.Omega.{arith}
+use lib.ListN.{length, take, drop, replicate, length-append, length-drop, replicate-append-replicate}
+use lib.Seq.{take-all, drop-at, drop-drop, take-add, take-length, getD-drop}
+use lib.Dec.{eqb, ltb}
+use borrow.Author.Tests.{lt-ltb, le-leb, eq-eqb, eqb-true, eqb-false}
+use Rattle.lists.specs.Pick.{pick}
+use Rattle.lists.specs.Parts.{IsBytes, pad}
+use Rattle.lists.proofs.Tests.{cases, and-both, or-true}
+use Rattle.lists.proofs.PickLaws.{pick-both}
+use Rattle.lists.proofs.Order.{lt-or-le}
+use Rattle.lists.proofs.ZeroLaws.{zeros-replicate}
+use Rattle.cause.specs.declared.Verdict.the-variants.{Sound}
+use Rattle.cause.proofs.CheckLaws.{pass-sound}
+use Rattle.container.specs.Layout.{Format, formatOf, wide}
+use Rattle.container.specs.Grants.{planeAllowed}
+use Rattle.container.specs.declared.grant.Grant.{Grant}
+use Rattle.message.specs.Heads.{typeOf, isMisc, activation, resp, resp2, miscU, linkStatus}
+use Rattle.message.specs.Places.{placed, miscs, responses}
+use Rattle.record.specs.Records.{recordsOf, AllMessages}
+use Rattle.record.proofs.RecordLaws.{list-exactly}
+use Rattle.reader.specs.Cells.{Cell, after, ended, carryAfter, endings}
+use Rattle.reader.specs.Checking.{oneMisc, fourResponses}
+use Rattle.reader.specs.Reading.{readerWith}
+use Rattle.reader.specs.declared.reader.Reader.{Reader}
+use Rattle.writer.specs.Plan.{startCell, onCell, legal, Pen, Given, give, penAfter, plan, penLast, penOf}
+use Rattle.writer.specs.Laying.{filled, owesAfter, usedOf}
+use Rattle.writer.specs.Filling.{tailOf, writerOk, writerWith, callChecks, fillFault, filling, fillBytes}
+use Rattle.writer.specs.Calls.{Fills, Filling, Reading, FillingList, none, then, zeroGrant}
+use Rattle.writer.specs.declared.writer.Writer.{Writer}
+use Rattle.writer.proofs.Simulation.{Link, idle, busy, begun, message-most, short-ended, piece-ended, Left, sizeLength, is-next, legal-placed, Steps, give-next, give-on, give-over, step-followed}
+use Rattle.writer.proofs.Run.{Ran}
+use Rattle.writer.proofs.Return.{all-returned}
+use Rattle.writer.proofs.RoundTrip.{link-most, tail-of, ran, is-filled, Linked, list-left}
+
+-- the wide granules among g, g + 1, .., k of them
+abbrev wides : Format → ℕ → ℕ → ℕ
+wides fm zero g = 0
+wides fm (suc k) g = pick (wide fm g) 1 0 + wides fm k (g + 1)
+
+module _ (fm : Format) (n : Grant) (l : List ℕ) where
+  -- a message ends in the first of the cells or in a later one
+  ends-by : (k g : ℕ) (m : List ℕ) (w : Pen) (v : Given) → give fm n l g w ≡ v
+      → (0 < length (ended (v .cell) m)) ⊎ (0 < length (endings fm (g + 1) (plan fm n l k (g + 1) (penAfter g w v)) (after fm g (v .cell) m)))
+      → 0 < length (endings fm g (plan fm n l (suc k) g w) m)
+  unfolding plan endings
+  ends-by k g m w v e p =
+      subst (λ (x : Given). 0 < length (ended (x .cell) m ++ endings fm (g + 1) (plan fm n l k (g + 1) (penAfter g w x)) (after fm g (x .cell) m))) (sym e)
+      (rw (length-append (ended (v .cell) m) (endings fm (g + 1) (plan fm n l k (g + 1) (penAfter g w v)) (after fm g (v .cell) m)))
+      (⊎-elim (λ a. omega arith) (λ a. omega arith) p))
+
+  -- a message that is owed ends where enough wide granules follow
+  owed-ends : (k g : ℕ) (m t : List ℕ) (ms : List (List ℕ)) (at : ℕ) (es : List Cell) → Link m t → Left l at ms → 0 < length t → length t ≤ 20 * wides fm k g
+      → 0 < length (endings fm g (plan fm n l k g (record { owes = t; at = at; group = es })) m)
+  owed-ends zero g m t ms at es link left p b = absurd (omega arith)
+  owed-ends (suc k) g m t ms at es idle left p b = absurd (omega arith)
+  owed-ends (suc k) g m t ms at es (busy h a c pm pt) left p b =
+      let later : Later = λ m′ t′ ms′ at′ es′. owed-ends k (g + 1) m′ t′ ms′ at′ es′ in
+      ⊎-elim (in-wide later) (in-narrow later) (cases (wide fm g))
+    where
+      w : Pen
+      w = record { owes = t; at = at; group = es }
+
+      Later : Type 0
+      Later = (m′ t′ : List ℕ) (ms′ : List (List ℕ)) (at′ : ℕ) (es′ : List Cell) → Link m′ t′ → Left l at′ ms′ → 0 < length t′
+          → length t′ ≤ 20 * wides fm k (g + 1) → 0 < length (endings fm (g + 1) (plan fm n l k (g + 1) (record { owes = t′; at = at′; group = es′ })) m′)
+
+      next : (v : Given) → give fm n l g w ≡ v → Steps fm l g m t at ms v
+      next v e = subst (Steps fm l g m t at ms) e (step-followed fm n l g at es m t ms (busy h a c pm pt) left)
+
+      in-wide : Later → wide fm g ≡ true → 0 < length (endings fm g (plan fm n l (suc k) g w) m)
+      in-wide later e =
+          let v : Given = record { cell = onCell 20 t; owes = drop 20 t; at = at } in
+          let q : give fm n l g w ≡ v = give-on fm n l g at es t pt e in
+          let b′ : length t ≤ 20 * (1 + wides fm k (g + 1)) = rw e at b in
+          let d : length (drop 20 t) ≡ length t - 20 = length-drop 20 t in
+          let s = next v q in
+          ends-by k g m w v q
+          (⊎-elim (λ (x : 20 < length t). inr (later (after fm g (onCell 20 t) m) (drop 20 t) (s .rest) at _ (s .follows .link) (s .left) (rw d (omega arith)) (rw d (omega arith))))
+          (λ (x : length t ≤ 20). inl (rw (piece-ended m t h a c pm pt fm g ms e (omega arith)) (omega arith))) (lt-or-le 20 (length t)))
+
+      in-narrow : Later → wide fm g ≡ false → 0 < length (endings fm g (plan fm n l (suc k) g w) m)
+      in-narrow later e =
+          let q = give-over fm n l g at es t pt e in
+          let b′ : length t ≤ 20 * (0 + wides fm k (g + 1)) = rw e at b in
+          let s = next _ q in
+          ends-by k g m w _ q (inr (later m t (s .rest) at _ (s .follows .link) (s .left) pt (omega arith)))
+
+-- a message that comes first in a container may start in G0
+pub legal-first : (fm : Format) (m : List ℕ) → wide fm 0 ≡ true → legal fm zeroGrant 0 [] m ≡ true
+legal-first fm m w =
+    let p : placed fm 0 m ≡ true = rw w (or-true (not (isMisc m linkStatus))) in
+    let b = startCell (fm .size 0) m .bytes in
+    let a : oneMisc (startCell (fm .size 0) m ∷ []) ≡ true = le-leb (miscs b + 0) 1 (let h = misc-most b in omega arith) in
+    let r : fourResponses (startCell (fm .size 0) m ∷ []) ≡ true = le-leb (responses b + 0) 4 (let h = response-most b in omega arith) in
+    rw (p, or-true (not (isMisc m activation)), a, r)
+  where
+    misc-most : (b : List ℕ) → miscs b ≤ 1
+    misc-most b = pick-both (λ (k : ℕ). k ≤ 1) (eqb (typeOf b) miscU) (omega arith) (omega arith)
+
+    response-most : (b : List ℕ) → responses b ≤ 2
+    response-most b =
+        pick-both (λ (k : ℕ). k ≤ 2) (eqb (typeOf b) resp) (omega arith) (pick-both (λ (k : ℕ). k ≤ 2) (eqb (typeOf b) resp2) (omega arith) (omega arith))
+
+-- G0 is wide, and so are five of the other granules
+wide-first : (f : ℕ) → wide (formatOf f) 0 ≡ true
+wide-first f = ⊎-elim (λ (e : eqb f 0 ≡ true). rw e) (λ (e : eqb f 0 ≡ false). rw e) (cases (eqb f 0))
+
+wide-others : (f : ℕ) → 5 ≤ wides (formatOf f) 11 1
+wide-others f = ⊎-elim (λ (e : eqb f 0 ≡ true). rw e (omega arith)) (λ (e : eqb f 0 ≡ false). rw e (omega arith)) (cases (eqb f 0))
+
+-- the messages that are not finished: the one begun and those to come
+abbrev pub unfinished : List ℕ → List ℕ → List (List ℕ) → ℕ
+unfinished m t ms = length (begun m t) + length ms
+
+-- a container whose first message starts in G0 finishes it
+module _ (f : ℕ) (l x : List ℕ) (ms : List (List ℕ)) (left : Left l 0 (x ∷ ms)) where
+  abbrev fm : Format
+  fm = formatOf f
+
+  abbrev v : Given
+  v = record { cell = startCell (fm .size 0) x; owes = drop (fm .size 0) x; at = 0 + (sizeLength x + length x) }
+
+  twenty : fm .size 0 ≡ 20
+  twenty = eqb-true (fm .size 0) 20 (wide-first f)
+
+  first-given : give fm zeroGrant l 0 (penOf []) ≡ v
+  first-given = give-next fm zeroGrant l 0 0 [] x ms left (legal-first fm x (wide-first f))
+
+  first-steps : Steps fm l 0 [] [] 0 (x ∷ ms) v
+  first-steps = subst (Steps fm l 0 [] [] 0 (x ∷ ms)) first-given (step-followed fm zeroGrant l 0 0 [] [] [] (x ∷ ms) idle left)
+
+  short-ends : length x ≤ 20 → 0 < length (ended (v .cell) [])
+  short-ends a =
+      let fits : length x ≤ fm .size 0 = rw twenty a in
+      let p = legal-placed fm zeroGrant 0 [] x (legal-first fm x (wide-first f)) in
+      rw (take-all (fm .size 0) x fits, short-ended fm 0 x ms (is-next l 0 x ms left) fits p) (omega arith)
+
+  long-ends : 20 < length x → 0 < length (endings fm 1 (plan fm zeroGrant l 11 1 (penAfter 0 (penOf []) v)) (after fm 0 (v .cell) []))
+  long-ends a =
+      let d : length (drop (fm .size 0) x) ≡ length x - 20 = length-drop (fm .size 0) x ∙ ap (λ (k : ℕ). length x - k) twenty in
+      let most = message-most x (is-next l 0 x ms left) in
+      let k = wide-others f in
+      let s = first-steps in
+      owed-ends fm zeroGrant l 11 1 (after fm 0 (v .cell) []) (drop (fm .size 0) x) (s .rest) (v .at) _ (s .follows .link) (s .left) (rw d (omega arith)) (rw d (omega arith))
+
+  starts-ends : 0 < length (endings fm 0 (plan fm zeroGrant l 12 0 (penOf [])) [])
+  starts-ends =
+      ends-by fm zeroGrant l 11 0 [] (penOf []) v first-given
+      (⊎-elim (λ (a : 20 < length x). inr (long-ends a)) (λ (a : length x ≤ 20). inl (short-ends a)) (lt-or-le 20 (length x)))
+
+-- a container finishes a message where there is one
+finishes-one : (f : ℕ) (m t l : List ℕ) (ms : List (List ℕ)) → Link m t → Left l 0 ms → 0 < unfinished m t ms
+    → 0 < length (endings (formatOf f) 0 (plan (formatOf f) zeroGrant l 12 0 (penOf t)) m)
+finishes-one f m t l [] idle left p = absurd (omega arith)
+finishes-one f m t l (x ∷ ms) idle left p = starts-ends f l x ms left
+finishes-one f m t l ms (busy h a b pm pt) left p =
+    let k = wide-others f in
+    let s = link-most m t (busy h a b pm pt) .1 in
+    owed-ends (formatOf f) zeroGrant l 12 0 m t ms 0 [] (busy h a b pm pt) left pt (rw (wide-first f) (omega arith))
+
+-- ---- one fill
+
+link-granules : (m t : List ℕ) → Link m t → length t % 20 ≡ 0
+link-granules m t idle = refl
+link-granules m t (busy h a b pm pt) = b
+
+-- a valid call is accepted
+module _ (f : ℕ) (n : Grant) (m t l : List ℕ) (ms : List (List ℕ)) (small : f < 2) (low : n .rp < 8) (allowed : planeAllowed n ≡ true)
+    (link : Link m t) (left : Left l 0 ms) (hb : IsBytes l) (few : length l ≤ 4096) where
+  writer-ok : writerOk (writerWith f t) ≡ true
+  writer-ok =
+      let d : drop (length t) (pad 100 t) ≡ replicate (100 - length t) 0 = drop-at t (replicate (100 - length t) 0) (length t) refl in
+      rw (lt-ltb f 2 small, le-leb (length t) 100 (link-most m t link .1), eq-eqb (length t % 20) 0 (link-granules m t link), d)
+      (zeros-replicate (100 - length t))
+
+  call-sound : (k : ℕ) → k ≡ 256 → fillFault (writerWith f t) l n k ≡ Sound
+  unfolding fillFault callChecks
+  call-sound k e =
+      rw (pass-sound (callChecks (writerWith f t) (length l) n k)
+      (writer-ok, (eq-eqb k 256 e, (le-leb (length l) 4096 few, (and-both (ltb (n .rp) 8) (planeAllowed n) (lt-ltb (n .rp) 8 low) allowed, tt)))))
+      (list-exactly l hb .1 (record { messages = ms; joined = left .records; all = left .all }))
+
+  pub call-fills : Fills (writerWith f t) l n (filled (formatOf f) n t l) (usedOf (formatOf f) n t l) (writerWith f (owesAfter (formatOf f) n t l))
+  unfolding filling fillBytes
+  call-fills = record {
+    answer = rw (call-sound 256 refl, tail-of f t);
+    next = rw (call-sound 256 refl, tail-of f t);
+    bytes = λ old e. rw (call-sound (length old) e, tail-of f t);
+    of-bytes = hb;
+  }
+
+-- behind a container fewer messages are not finished
+fewer : (f : ℕ) (m t l : List ℕ) (ms : List (List ℕ)) (link : Link m t) (left : Left l 0 ms) → 0 < unfinished m t ms
+    → (w : Pen) → (r : Ran (formatOf f) l 0 m t 0 ms (plan (formatOf f) zeroGrant l 12 0 (penOf t)) w)
+    → unfinished (carryAfter (formatOf f) 0 (plan (formatOf f) zeroGrant l 12 0 (penOf t)) m) (w .owes) (r .rest) < unfinished m t ms
+fewer f m t l ms link left p w r = let e = simp length-append at (ap length (r .out)) in omega (arith, finishes-one f m t l ms link left p)
+
+-- ---- progress
+
+-- one message is begun where bytes are owed
+begun-count : (m t : List ℕ) → ((length t ≡ 0) × (length (begun m t) ≡ 0)) ⊎ ((0 < length t) × (length (begun m t) ≡ 1))
+begun-count m t =
+    ⊎-elim (λ (e : eqb (length t) 0 ≡ true). inl (eqb-true (length t) 0 e, rw e))
+    (λ (e : eqb (length t) 0 ≡ false). inr (let d = eqb-false (length t) 0 e in omega arith, rw e)) (cases (eqb (length t) 0))
+
+some-unfinished : (m t l : List ℕ) (ms : List (List ℕ)) → l ≡ recordsOf ms → (0 < length l) ⊎ (0 < length t) → 0 < unfinished m t ms
+some-unfinished m t l [] e p =
+    ⊎-elim (λ (q : 0 < length l). let z : length l ≡ 0 = ap length e in absurd (omega arith))
+    (λ (q : 0 < length t). ⊎-elim (λ x. let z = x .0 in absurd (omega arith)) (λ x. let z = x .1 in omega arith) (begun-count m t)) p
+some-unfinished m t l (x ∷ ms) e p = omega arith
+
+progress-with : (f : ℕ) (m t l : List ℕ) (ms : List (List ℕ)) → Link m t → Left l 0 ms → (w : Pen)
+    → Ran (formatOf f) l 0 m t 0 ms (plan (formatOf f) zeroGrant l 12 0 (penOf t)) w
+    → (0 < length l) ⊎ (0 < length t) → (0 < w .at) ⊎ ((0 < length t) × (length (w .owes) ≡ 0))
+progress-with f m t l ms link left w r some =
+    ⊎-elim (λ x. inr (paid (ap length (x .0)))) (λ x. inl x) (r .moved)
+  where
+    m′ : List ℕ
+    m′ = carryAfter (formatOf f) 0 (plan (formatOf f) zeroGrant l 12 0 (penOf t)) m
+
+    paid : length (r .rest) ≡ length ms → (0 < length t) × (length (w .owes) ≡ 0)
+    paid e =
+        let k = fewer f m t l ms link left (some-unfinished m t l ms (left .records) some) w r in
+        ⊎-elim (λ x. let z = x .1 in absurd (omega arith))
+        (λ x. let z = x .1 in (x .0, ⊎-elim (λ y. y .0) (λ y. let v = y .1 in absurd (omega arith)) (begun-count m′ (w .owes)))) (begun-count m t)
+
+-- a grant of nothing, records left or a tail owed: a fill uses a record, or it pays off the tail
+pub progress : (f : ℕ) (s : Reader) (w : Writer) (l c : List ℕ) (u : ℕ) (w′ : Writer) → Linked f s w → Fills w l zeroGrant c u w′
+    → (0 < length l) ⊎ (0 < length (tailOf w)) → (0 < u) ⊎ ((0 < length (tailOf w)) × (length (tailOf w′) ≡ 0))
+unfolding owesAfter usedOf
+progress f s w l c u w′ k h some =
+    let a = is-filled f (k .tail) l zeroGrant c u w′ (rw (k .writer) at h) in
+    let ms = list-left l (h .of-bytes) (a .sound) in
+    let r = ran f zeroGrant (a .low) (a .allowed) (k .carry) (k .tail) l (ms .0) (k .link) (ms .1) in
+    let t : tailOf w ≡ k .tail = ap tailOf (k .writer) ∙ tail-of f (k .tail) in
+    let t′ : tailOf w′ ≡ penLast (formatOf f) zeroGrant l 12 0 (penOf (k .tail)) .owes = ap tailOf (sym (a .next)) ∙ tail-of f _ in
+    rw (t, t′, ← a .used) (progress-with f (k .carry) (k .tail) l (ms .0) (k .link) (ms .1) _ r (rw t at some))
+
+-- ---- all fills of a list
+
+-- fills of the list l, with grants of nothing from a new writer on, that use it up and owe nothing then, at most p of them
+pub record UsedUp (f : ℕ) (l : List ℕ) (p : ℕ) : Type 0 where
+  pub containers : List (List ℕ)
+  pub writer : Writer
+  pub fills : FillingList (writerWith f []) l zeroGrant containers (length l) writer
+  pub owes-none : length (tailOf writer) ≡ 0
+  pub few : length containers ≤ p
+
+-- what is left of a list, seen from what was left before
+left-here : (l : List ℕ) (at : ℕ) (ms : List (List ℕ)) → Left l at ms → Left (drop at l) 0 ms
+left-here l at ms h = record { within = omega arith; records = h .records; all = h .all }
+
+left-there : (l : List ℕ) (at u : ℕ) (ms : List (List ℕ)) → at ≤ length l → Left (drop at l) u ms → Left l (at + u) ms
+left-there l at u ms b h =
+    let k = h .within in
+    let d = length-drop at l in
+    record { within = omega arith; records = sym (drop-drop u at l) ∙ h .records; all = h .all }
+
+-- where no message is unfinished, all of the list is used and nothing is owed
+all-used : (m t l : List ℕ) (ms : List (List ℕ)) (at : ℕ) → Left l at ms → unfinished m t ms ≡ 0 → (at ≡ length l) × (length t ≡ 0)
+all-used m t l [] at left e =
+    let d : length l - at ≡ 0 = sym (length-drop at l) ∙ ap length (left .records) in
+    let k = left .within in
+    (omega arith, ⊎-elim (λ x. x .0) (λ x. let z = x .1 in absurd (omega arith)) (begun-count m t))
+all-used m t l (x ∷ ms) at left e = absurd (omega arith)
+
+module _ (f : ℕ) (small : f < 2) (l : List ℕ) (hb : IsBytes l) (short : length l ≤ 4096) where
+  abbrev Fillings : List (List ℕ) → ℕ → List ℕ → Type 0
+  Fillings cs at t = FillingList (writerWith f []) l zeroGrant cs at (writerWith f t)
+
+  none-left : (m t : List ℕ) (ms : List (List ℕ)) (at p : ℕ) (cs : List (List ℕ)) → Left l at ms → Fillings cs at t
+      → unfinished m t ms ≡ 0 → length cs ≤ p → UsedUp f l p
+  none-left m t ms at p cs left done e b =
+      let a = all-used m t l ms at left e in
+      record {
+        containers = cs;
+        writer = writerWith f t;
+        fills = subst (λ (i : ℕ). Fillings cs i t) (a .0) done;
+        owes-none = rw (tail-of f t) (a .1);
+        few = b;
+      }
+
+  finishes : (k : ℕ) (m t : List ℕ) (ms : List (List ℕ)) (at p : ℕ) (cs : List (List ℕ)) → Link m t → Left l at ms → Fillings cs at t
+      → unfinished m t ms ≤ k → length cs + k ≤ p → UsedUp f l p
+  unfolding owesAfter usedOf
+  finishes zero m t ms at p cs link left done e b = none-left m t ms at p cs left done (omega arith) (omega arith)
+  finishes (suc k) m t ms at p cs link left done e b =
+      ⊎-elim (λ (some : 0 < unfinished m t ms).
+      let here = left-here l at ms left in
+      let bytes : IsBytes (drop at l) = λ i. rw (getD-drop at l i 0) (hb (at + i)) in
+      let h = call-fills f zeroGrant m t (drop at l) ms small (omega arith) refl link here bytes (rw (length-drop at l) (omega arith)) in
+      let r = ran f zeroGrant (omega arith) refl m t (drop at l) ms link here in
+      let u = usedOf (formatOf f) zeroGrant t (drop at l) in
+      finishes k (carryAfter (formatOf f) 0 (plan (formatOf f) zeroGrant (drop at l) 12 0 (penOf t)) m) (owesAfter (formatOf f) zeroGrant t (drop at l)) (r .rest) (at + u) p
+      (cs ++ (filled (formatOf f) zeroGrant t (drop at l) ∷ [])) (r .link) (left-there l at u (r .rest) (left .within) (r .left)) (then u done h)
+      (omega (arith, fewer f m t (drop at l) ms link here some _ r)) (rw (length-append cs (filled (formatOf f) zeroGrant t (drop at l) ∷ [])) (omega arith)))
+      (λ (none : unfinished m t ms ≤ 0). none-left m t ms at p cs left done (omega arith) (omega arith))
+      (lt-or-le 0 (unfinished m t ms))
+
+-- n messages from a new writer on, with grants of nothing: at most n containers
+pub within-n : (f : ℕ) (l : List ℕ) (ms : List (List ℕ)) → f < 2 → IsBytes l → length l ≤ 4096 → l ≡ recordsOf ms → AllMessages ms
+    → UsedUp f l (length ms)
+within-n f l ms small hb short e a =
+    finishes f small l hb short (length ms) [] [] ms 0 (length ms) [] idle (record { within = omega arith; records = e; all = a }) none (omega arith) (omega arith)
+
+pub within-2n : (f : ℕ) (l : List ℕ) (ms : List (List ℕ)) → f < 2 → IsBytes l → length l ≤ 4096 → l ≡ recordsOf ms → AllMessages ms
+    → UsedUp f l (2 * length ms)
+within-2n f l ms small hb short e a =
+    let r = within-n f l ms small hb short e a in
+    let b = r .few in
+    record { containers = r .containers; writer = r .writer; fills = r .fills; owes-none = r .owes-none; few = omega arith }
+
+-- ---- the fills of a list are fills
+
+pub list-fills : {w : Writer} {l : List ℕ} {n : Grant} {cs : List (List ℕ)} {at : ℕ} {w′ : Writer} → FillingList w l n cs at w′
+    → Filling w cs (replicate (length cs) n) (take at l) w′
+list-fills none = none
+list-fills {w = w} {l = l} {n = n} (then {cs = cs} {at = at} {w₁ = w₁} {w₂ = w₂} {c = c} u before h) =
+    let a : replicate (length (cs ++ (c ∷ []))) n ≡ replicate (length cs) n ++ (n ∷ []) =
+    ap (λ (k : ℕ). replicate k n) (length-append cs (c ∷ [])) ∙ sym (replicate-append-replicate (length cs) 1 n) in
+    rw (a, take-add at u l) (then (drop at l) n u (list-fills before) h)
+
+-- and a new reader hands out all n messages of these containers
+pub returned-within-n : (f : ℕ) (l : List ℕ) (ms : List (List ℕ)) → f < 2 → IsBytes l → length l ≤ 4096 → l ≡ recordsOf ms → AllMessages ms
+    → (r : UsedUp f l (length ms)) × ((s : Reader) × Reading (readerWith f []) (r .containers) (replicate (length (r .containers)) zeroGrant) (recordsOf ms) s)
+returned-within-n f l ms small hb short e a =
+    let r = within-n f l ms small hb short e a in
+    let ns = replicate (length (r .containers)) zeroGrant in
+    let h = subst (λ (x : List ℕ). Filling (writerWith f []) (r .containers) ns x (r .writer)) (take-length l ∙ e) (list-fills (r .fills)) in
+    (r, all-returned f (r .containers) ns (recordsOf ms) (r .writer) small h (r .owes-none))
+
+-- ---- whatever the calls, n of them finish n messages
+
+-- what is unfinished after fills of a list of messages ms
+record Going (f : ℕ) (l : List ℕ) (ms cs : List (List ℕ)) (at : ℕ) (w : Writer) : Type 0 where
+  carry : List ℕ
+  tail : List ℕ
+  rest : List (List ℕ)
+  is-writer : w ≡ writerWith f tail
+  link : Link carry tail
+  left : Left l at rest
+  few : unfinished carry tail rest ≤ length ms - length cs
+
+-- a container leaves one less, or none
+one-less : (f : ℕ) (m t l : List ℕ) (ms : List (List ℕ)) (link : Link m t) (left : Left l 0 ms) (w : Pen)
+    → (r : Ran (formatOf f) l 0 m t 0 ms (plan (formatOf f) zeroGrant l 12 0 (penOf t)) w)
+    → unfinished (carryAfter (formatOf f) 0 (plan (formatOf f) zeroGrant l 12 0 (penOf t)) m) (w .owes) (r .rest) ≤ unfinished m t ms - 1
+one-less f m t l ms link left w r =
+    ⊎-elim (λ (p : 0 < unfinished m t ms). omega (arith, fewer f m t l ms link left p w r))
+    (λ (p : unfinished m t ms ≤ 0). let e = simp length-append at (ap length (r .out)) in omega arith) (lt-or-le 0 (unfinished m t ms))
+
+going : (f : ℕ) (l : List ℕ) (ms : List (List ℕ)) → l ≡ recordsOf ms → AllMessages ms → {cs : List (List ℕ)} {at : ℕ} {w : Writer}
+    → FillingList (writerWith f []) l zeroGrant cs at w → Going f l ms cs at w
+unfolding owesAfter usedOf
+going f l ms e a none = record {
+  carry = [];
+  tail = [];
+  rest = ms;
+  is-writer = refl;
+  link = idle;
+  left = record { within = omega arith; records = e; all = a };
+  few = omega arith;
+}
+going f l ms e a (then {cs = cs} {at = at} {w₁ = w₁} {w₂ = w₂} {c = c} u before h) =
+    let g = going f l ms e a before in
+    let here = left-here l at (g .rest) (g .left) in
+    let k = is-filled f (g .tail) (drop at l) zeroGrant c u w₂ (rw (g .is-writer) at h) in
+    let r = ran f zeroGrant (k .low) (k .allowed) (g .carry) (g .tail) (drop at l) (g .rest) (g .link) here in
+    record {
+      carry = carryAfter (formatOf f) 0 (plan (formatOf f) zeroGrant (drop at l) 12 0 (penOf (g .tail))) (g .carry);
+      tail = owesAfter (formatOf f) zeroGrant (g .tail) (drop at l);
+      rest = r .rest;
+      is-writer = sym (k .next);
+      link = r .link;
+      left = left-there l at u (r .rest) (g .left .within) (subst (λ (i : ℕ). Left (drop at l) i (r .rest)) (k .used) (r .left));
+      few = rw (length-append cs (c ∷ [])) (omega (arith, g .few, one-less f (g .carry) (g .tail) (drop at l) (g .rest) (g .link) here _ r));
+    }
+
+-- after n fills with grants of nothing, n messages from a new writer on are used up and nothing is owed
+pub finished-by-n : (f : ℕ) (l : List ℕ) (ms : List (List ℕ)) → l ≡ recordsOf ms → AllMessages ms → {cs : List (List ℕ)} {at : ℕ} {w : Writer}
+    → FillingList (writerWith f []) l zeroGrant cs at w → length ms ≤ length cs → (at ≡ length l) × (length (tailOf w) ≡ 0)
+finished-by-n f l ms e a {at = at} h b =
+    let g = going f l ms e a h in
+    let k = all-used (g .carry) (g .tail) l (g .rest) at (g .left) (omega (arith, g .few)) in
+    (k .0, rw (g .is-writer, tail-of f (g .tail)) (k .1))

@@ -1,0 +1,194 @@
+-- The groups of the writer's plan keep their rules. Assumes nothing.
+use Prim.Native.Nat.{ℕ, zero, suc, _+_, _%_, _≤_, _<_}
+use mathlib.Core.Path.{_≡_, refl, sym, ap, _∙_, subst}
+use mathlib.Core.Bool.{Bool, true, false, _&&_, _||_, not}
+use mathlib.Core.List.{List, [], _∷_, _++_}
+use mathlib.Core.Logic.{_⊎_, inl, inr, ⊎-elim}
+use native.Mathlib.Omega.{arith}
+use native.Mathlib.Nat.{add-assoc, add-zero}
+use lib.ListN.{length, drop}
+use lib.Dec.{eqb}
+use borrow.Author.Tests.{ne-eqb, eqb-false}
+use Rattle.lists.proofs.Tests.{cases, never-both, and-left, and-right, and-false}
+use Rattle.cause.specs.Checks.{Pass}
+use Rattle.container.specs.Layout.{Format, wide}
+use Rattle.container.specs.Grants.{noCounts}
+use Rattle.container.specs.declared.grant.Grant.{Grant}
+use Rattle.message.specs.Heads.{isMisc, activation}
+use Rattle.message.specs.Places.{placed, miscs, responses}
+use Rattle.reader.specs.Cells.{Cell, after}
+use Rattle.reader.specs.Checking.{populated, nonePopulated, noGap, starting, sumOf, oneMisc, fourResponses, groupChecks}
+use Rattle.writer.specs.Plan.{emptyCell, startCell, onCell, groupOk, legal, Pen, Given, nothing, give, groupAfter, penAfter, plan}
+use Rattle.writer.proofs.Simulation.{Link, idle, busy, Left, step-followed, give-next, give-not, give-none, give-on, give-over}
+
+-- every cell is populated
+abbrev pub allPopulated : List Cell → Bool
+allPopulated [] = true
+allPopulated (e ∷ es) = populated e && allPopulated es
+
+-- ---- one more cell
+
+none-more : (es : List Cell) (e : Cell) → populated e ≡ false → nonePopulated (es ++ (e ∷ [])) ≡ nonePopulated es
+none-more [] e p = rw p
+none-more (x ∷ es) e p = ap (λ (b : Bool). not (populated x) && b) (none-more es e p)
+
+gap-empty : (es : List Cell) (e : Cell) → populated e ≡ false → noGap (es ++ (e ∷ [])) ≡ noGap es
+gap-empty [] e p = rw p
+gap-empty (x ∷ es) e p = rw (gap-empty es e p, none-more es e p)
+
+gap-full : (es : List Cell) (e : Cell) → allPopulated es ≡ true → noGap (es ++ (e ∷ [])) ≡ true
+gap-full [] e a = ⊎-elim (λ (p : populated e ≡ true). rw p) (λ (p : populated e ≡ false). rw p) (cases (populated e))
+gap-full (x ∷ es) e a = rw (and-left (populated x) (allPopulated es) a) (gap-full es e (and-right (populated x) (allPopulated es) a))
+
+full-more : (es : List Cell) (e : Cell) → allPopulated es ≡ true → populated e ≡ true → allPopulated (es ++ (e ∷ [])) ≡ true
+full-more [] e a p = rw p
+full-more (x ∷ es) e a p = rw (and-left (populated x) (allPopulated es) a) (full-more es e (and-right (populated x) (allPopulated es) a) p)
+
+-- where the last is populated, no gap means that all are
+none-not : (es : List Cell) (e : Cell) → populated e ≡ true → nonePopulated (es ++ (e ∷ [])) ≡ false
+none-not [] e p = rw p
+none-not (x ∷ es) e p = rw (none-not es e p) (and-false (not (populated x)))
+
+pub gap-all : (es : List Cell) (e : Cell) → populated e ≡ true → noGap (es ++ (e ∷ [])) ≡ true → allPopulated (es ++ (e ∷ [])) ≡ true
+gap-all [] e p h = rw p
+gap-all (x ∷ es) e p h =
+    ⊎-elim (full (λ k. gap-all es e p k)) (λ (q : populated x ≡ false). absurd (never-both (none-not es e p) (rw q at h))) (cases (populated x))
+  where
+    full : (noGap (es ++ (e ∷ [])) ≡ true → allPopulated (es ++ (e ∷ [])) ≡ true) → populated x ≡ true → allPopulated ((x ∷ es) ++ (e ∷ [])) ≡ true
+    full ih q = rw q (ih (rw q at h))
+
+sum-more : (f : List ℕ → ℕ) (es : List Cell) (e : Cell) → sumOf f (es ++ (e ∷ [])) ≡ sumOf f es + starting f e
+sum-more f [] e = let x = starting f e in omega arith
+sum-more f (x ∷ es) e = rw (sum-more f es e) (sym (add-assoc (starting f x) (sumOf f es) (starting f e)))
+
+sum-idle : (f : List ℕ → ℕ) (es : List Cell) (e : Cell) → e .starts ≡ false → sumOf f (es ++ (e ∷ [])) ≡ sumOf f es
+sum-idle f es e p = sum-more f es e ∙ rw p (add-zero (sumOf f es))
+
+-- a cell in which nothing starts keeps the sums
+ok-idle : (es : List Cell) (e : Cell) → e .starts ≡ false → noGap (es ++ (e ∷ [])) ≡ true → groupOk es ≡ true → groupOk (es ++ (e ∷ [])) ≡ true
+ok-idle es e p gap h = rw (gap, sum-idle miscs es e p, sum-idle responses es e p) (and-right (noGap es) (oneMisc es && fourResponses es) h)
+
+-- ---- the writer's step
+
+-- the group so far keeps its rules, and has no empty cell while a message goes on
+pub record Packed (es : List Cell) (t : List ℕ) : Type 0 where
+  pub ok : groupOk es ≡ true
+  pub full : 0 < length t → allPopulated es ≡ true
+
+-- the group with the cell given: while a message goes on, no cell is empty, unless the group ends here
+pub record Grown (g : ℕ) (es : List Cell) (v : Given) : Type 0 where
+  pub ok : groupOk (es ++ (v .cell ∷ [])) ≡ true
+  pub full : (g % 3 ≡ 2 → ⊥) → 0 < length (v .owes) → allPopulated (es ++ (v .cell ∷ [])) ≡ true
+
+module _ (fm : Format) (n : Grant) (g : ℕ) (narrow-last : wide fm g ≡ false → g % 3 ≡ 2) (l : List ℕ) (at : ℕ) (es : List Cell) where
+  stays-empty : (t : List ℕ) → (wide fm g ≡ false) ⊎ (length t ≡ 0) → groupOk es ≡ true → Grown g es (nothing fm g (record { owes = t; at = at; group = es }))
+  stays-empty t why h = record {
+    ok = ok-idle es (emptyCell (fm .size g)) refl (gap-empty es (emptyCell (fm .size g)) refl ∙ and-left (noGap es) (oneMisc es && fourResponses es) h) h;
+    full = λ not-last some. ⊎-elim (λ w. absurd (not-last (narrow-last w))) (λ z. absurd (none-left (length t) z some)) why;
+  }
+    where
+      none-left : (k : ℕ) → k ≡ 0 → 0 < k → ⊥
+      none-left k e p = omega arith
+
+  starts-legal : (m : List ℕ) (r : ℕ) → legal fm n g es m ≡ true → Grown g es (record { cell = startCell (fm .size g) m; owes = drop (fm .size g) m; at = r })
+  starts-legal m r t =
+      let es′ = es ++ (startCell (fm .size g) m ∷ []) in
+      let rules : groupOk es′ ≡ true = and-right (placed fm g m && (not (isMisc m activation) || noCounts n)) (groupOk es′) t in
+      record { ok = rules; full = λ _ _. gap-all es (startCell (fm .size g) m) refl (and-left (noGap es′) (oneMisc es′ && fourResponses es′) rules) }
+
+  pub group-step : (m t : List ℕ) (ms : List (List ℕ)) → Link m t → Left l at ms → Packed es t → Grown g es (give fm n l g (record { owes = t; at = at; group = es }))
+  group-step m t ms idle left h = next-step ms left
+    where
+      Goal : Type 0
+      Goal = Grown g es (give fm n l g (record { owes = []; at = at; group = es }))
+
+      empty : Grown g es (nothing fm g (record { owes = []; at = at; group = es }))
+      empty = stays-empty [] (inr refl) (h .ok)
+
+      next-step : (ms : List (List ℕ)) → Left l at ms → Goal
+      next-step [] left = subst (Grown g es) (sym (give-none fm n l g at es left)) empty
+      next-step (m ∷ ms) left =
+          ⊎-elim (λ y. subst (Grown g es) (sym (give-next fm n l g at es m ms left y)) (starts-legal m _ y))
+          (λ y. subst (Grown g es) (sym (give-not fm n l g at es m ms left y)) empty) (cases (legal fm n g es m))
+  group-step m t ms (busy a b d e p) left h =
+      ⊎-elim (λ w. subst (Grown g es) (sym (give-on fm n l g at es t p w)) (goes-on (h .full p)))
+      (λ w. subst (Grown g es) (sym (give-over fm n l g at es t p w)) (stays-empty t (inl w) (h .ok))) (cases (wide fm g))
+    where
+      goes-on : allPopulated es ≡ true → Grown g es (record { cell = onCell 20 t; owes = drop 20 t; at = at })
+      goes-on f = record {
+        ok = ok-idle es (onCell 20 t) refl (gap-full es (onCell 20 t) f) (h .ok);
+        full = λ _ _. full-more es (onCell 20 t) f refl;
+      }
+
+pub packed-none : (t : List ℕ) → Packed [] t
+packed-none t = record { ok = refl; full = λ _. refl }
+
+packed-next : (g : ℕ) (es : List Cell) (v : Given) → Grown g es v → Packed (groupAfter g es (v .cell)) (v .owes)
+packed-next g es v h =
+    ⊎-elim (λ (e : eqb (g % 3) 2 ≡ true). rw e (packed-none (v .owes)))
+    (λ (e : eqb (g % 3) 2 ≡ false). rw e (record { ok = h .ok; full = h .full (eqb-false (g % 3) 2 e) }))
+    (cases (eqb (g % 3) 2))
+
+-- ---- all groups
+
+abbrev pub thrice : ℕ → ℕ
+thrice zero = zero
+thrice (suc k) = suc (suc (suc (thrice k)))
+
+-- a pen whose owed bytes a reader follows, before a list of records, in a group that keeps its rules
+pub record Good (l : List ℕ) (w : Pen) : Type 0 where
+  pub read : List ℕ
+  pub link : Link read (w .owes)
+  pub rest : List (List ℕ)
+  pub left : Left l (w .at) rest
+  pub packed : Packed (w .group) (w .owes)
+
+module _ (fm : Format) (n : Grant) (l : List ℕ) (narrow-last : (g : ℕ) → g < 12 → wide fm g ≡ false → g % 3 ≡ 2) where
+  abbrev step : ℕ → Pen → Pen
+  step g w = penAfter g w (give fm n l g w)
+
+  grown : (g : ℕ) (w : Pen) → g < 12 → Good l w → Grown g (w .group) (give fm n l g w)
+  grown g w b h = group-step fm n g (narrow-last g b) l (w .at) (w .group) (h .read) (w .owes) (h .rest) (h .link) (h .left) (h .packed)
+
+  pub good-next : (g : ℕ) (w : Pen) → g < 12 → Good l w → Good l (step g w)
+  good-next g w b h =
+      let s = step-followed fm n l g (w .at) (w .group) (h .read) (w .owes) (h .rest) (h .link) (h .left) in
+      record {
+        read = after fm g (give fm n l g w .cell) (h .read);
+        link = s .follows .link;
+        rest = s .rest;
+        left = s .left;
+        packed = packed-next g (w .group) (give fm n l g w) (grown g w b h);
+      }
+
+  group-after : (g : ℕ) (w : Pen) → (g % 3 ≡ 2 → ⊥) → step g w .group ≡ w .group ++ (give fm n l g w .cell ∷ [])
+  group-after g w d = rw (ne-eqb (g % 3) 2 d)
+
+  group-ends : (g : ℕ) (w : Pen) → g % 3 ≡ 2 → step g w .group ≡ []
+  group-ends g w e = rw e
+
+  -- three granules from a group's first
+  three : (g : ℕ) (w : Pen) → g + 3 ≤ 12 → g % 3 ≡ 0 → w .group ≡ [] → Good l w
+      → groupOk (give fm n l g w .cell ∷ give fm n l (g + 1) (step g w) .cell ∷ give fm n l (g + 1 + 1) (step (g + 1) (step g w)) .cell ∷ []) ≡ true
+  three g w b e z h =
+      let w₁ = step g w in
+      let w₂ = step (g + 1) w₁ in
+      let h₁ = good-next g w (omega arith) h in
+      let h₂ = good-next (g + 1) w₁ (omega arith) h₁ in
+      let g₁ : w₁ .group ≡ give fm n l g w .cell ∷ [] = group-after g w (λ k. omega arith) ∙ rw z in
+      let g₂ : w₂ .group ≡ give fm n l g w .cell ∷ give fm n l (g + 1) w₁ .cell ∷ [] = group-after (g + 1) w₁ (λ k. omega arith) ∙ rw g₁ in
+      subst (λ (es : List Cell). groupOk (es ++ (give fm n l (g + 1 + 1) w₂ .cell ∷ [])) ≡ true) g₂ (grown (g + 1 + 1) w₂ (omega arith) h₂ .ok)
+
+  pub groups-pass : (k q g : ℕ) (w : Pen) → g + thrice k ≤ 12 → g % 3 ≡ 0 → w .group ≡ [] → Good l w → Pass (groupChecks k q (plan fm n l (thrice k) g w))
+  unfolding plan groupChecks
+  groups-pass zero q g w b e z h = tt
+  groups-pass (suc k) q g w b e z h =
+      let w₂ = step (g + 1) (step g w) in
+      let h₃ = good-next (g + 1 + 1) w₂ (omega arith) (good-next (g + 1) (step g w) (omega arith) (good-next g w (omega arith) h)) in
+      checked (give fm n l g w .cell ∷ give fm n l (g + 1) (step g w) .cell ∷ give fm n l (g + 1 + 1) w₂ .cell ∷ []) (three g w (omega arith) e z h)
+      (groups-pass k (q + 1) (g + 1 + 1 + 1) (step (g + 1 + 1) w₂) (omega arith) (omega arith) (group-ends (g + 1 + 1) w₂ (omega arith)) h₃)
+    where
+      checked : {A : Type 0} (es : List Cell) → groupOk es ≡ true → A → (noGap es ≡ true) × ((oneMisc es ≡ true) × ((fourResponses es ≡ true) × A))
+      checked es o r =
+          let s = and-right (noGap es) (oneMisc es && fourResponses es) o in
+          (and-left (noGap es) (oneMisc es && fourResponses es) o, (and-left (oneMisc es) (fourResponses es) s, (and-right (oneMisc es) (fourResponses es) s, r)))

@@ -1,0 +1,57 @@
+-- Demand 2, the return of messages: what a new writer has filled, a new reader of the same format reads back. Assumes nothing.
+use Prim.Native.Nat.{ℕ, _<_}
+use mathlib.Core.Path.{_≡_, refl, sym, ap, _∙_, subst}
+use mathlib.Core.List.{List, [], _++_, append-assoc}
+use lib.ListN.{length, take}
+use borrow.Author.Tests.{eq-eqb}
+use Rattle.lists.proofs.PartLaws.{append-nil}
+use Rattle.container.specs.declared.grant.Grant.{Grant}
+use Rattle.reader.specs.Reading.{readerWith}
+use Rattle.reader.specs.declared.reader.Reader.{Reader}
+use Rattle.writer.specs.Filling.{tailOf, writerWith}
+use Rattle.writer.specs.Calls.{Filling, none, then, Reading, underWay}
+use Rattle.writer.specs.declared.writer.Writer.{Writer}
+use Rattle.writer.proofs.Simulation.{idle}
+use Rattle.writer.proofs.RoundTrip.{Linked, fill-read}
+
+-- the readings of containers that were filled, up to the writer w: the grants are those handed in, and what came out and what is
+-- under way are the records used
+pub record Returned (f : ℕ) (cs : List (List ℕ)) (ns : List Grant) (used : List ℕ) (w : Writer) : Type 0 where
+  pub reader : Reader
+  pub out : List ℕ
+  pub readings : Reading (readerWith f []) cs ns out reader
+  pub same : used ≡ out ++ underWay reader w
+  pub linked : Linked f reader w
+
+-- what came out and what is under way, before a container and behind it
+one-more : (a b u v x y : List ℕ) → a ≡ b ++ u → x ++ v ≡ u ++ y → a ++ y ≡ (b ++ x) ++ v
+one-more a b u v x y p q =
+    ap (λ (k : List ℕ). k ++ y) p ∙ append-assoc b u y ∙ ap (λ (k : List ℕ). b ++ k) (sym q) ∙ sym (append-assoc b x v)
+
+pub return-of-messages : (f : ℕ) (cs : List (List ℕ)) (ns : List Grant) (used : List ℕ) (w : Writer) → f < 2
+    → Filling (writerWith f []) cs ns used w → Returned f cs ns used w
+return-of-messages f cs ns used w small none = record {
+  reader = readerWith f [];
+  out = [];
+  readings = none;
+  same = refl;
+  linked = record { format = small; carry = []; tail = []; reader = refl; writer = refl; link = idle };
+}
+return-of-messages f cs ns used w small (then {cs = cs₁} {ns = ns₁} {used = used₁} {w₁ = w₁} {c = c} l n u before h) =
+    let r = return-of-messages f cs₁ ns₁ used₁ w₁ small before in
+    let k = fill-read f (r .reader) w₁ l c n u w (h .of-bytes) (r .linked) h in
+    record {
+      reader = k .next;
+      out = r .out ++ k .out;
+      readings = then (r .readings) (k .reads);
+      same = one-more used₁ (r .out) (underWay (r .reader) w₁) (underWay (k .next) w) (k .out) (take u l) (r .same) (k .same);
+      linked = k .linked;
+    }
+
+-- where no tail is owed, all records used came out
+pub all-returned : (f : ℕ) (cs : List (List ℕ)) (ns : List Grant) (used : List ℕ) (w : Writer) → f < 2
+    → Filling (writerWith f []) cs ns used w → length (tailOf w) ≡ 0 → (s : Reader) × Reading (readerWith f []) cs ns used s
+all-returned f cs ns used w small h e =
+    let r = return-of-messages f cs ns used w small h in
+    let all : r .out ≡ used = sym (r .same ∙ rw (eq-eqb (length (tailOf w)) 0 e) (append-nil (r .out))) in
+    (r .reader, subst (λ (x : List ℕ). Reading (readerWith f []) cs ns x (r .reader)) all (r .readings))

@@ -1,0 +1,56 @@
+-- Sequences of calls of the writer and of the reader (demand 2).
+use Prim.Native.Nat.{ℕ, _+_, _≤_}
+use mathlib.Core.Path.{_≡_}
+use mathlib.Core.Bool.{false}
+use mathlib.Core.List.{List, [], _∷_, _++_}
+use lib.ListN.{length, take, drop}
+use lib.Dec.{eqb}
+use Rattle.lists.specs.Pick.{pick}
+use Rattle.lists.specs.Parts.{IsBytes}
+use Rattle.container.specs.declared.grant.Grant.{Grant}
+use Rattle.record.specs.Records.{recordOf}
+use Rattle.reader.specs.Reading.{carried, records, reading}
+use Rattle.reader.specs.declared.reader.Reader.{Reader}
+use Rattle.reader.specs.declared.reader.Answer.the-variants as read
+use Rattle.writer.specs.Filling.{tailOf, filling, fillBytes}
+use Rattle.writer.specs.declared.writer.Writer.{Writer}
+use Rattle.writer.specs.declared.writer.Answer.the-variants as fill
+
+-- an accepted fill: the writer w fills c from the list l under the grant n, uses u bytes of l, and becomes w′
+pub record Fills (w : Writer) (l : List ℕ) (n : Grant) (c : List ℕ) (u : ℕ) (w′ : Writer) : Type 0 where
+  pub answer : filling w l n 256 .answer ≡ fill.Filled u
+  pub next : filling w l n 256 .writer ≡ w′
+  pub bytes : (old : List ℕ) → length old ≡ 256 → fillBytes w l n old ≡ c
+  pub of-bytes : IsBytes l
+
+-- accepted fills one after the other, each with any list and any grant: the containers, the grants, and the records used
+pub data Filling (w : Writer) : List (List ℕ) → List Grant → List ℕ → Writer → Type 0 where
+  none : Filling w [] [] [] w
+  then : {cs : List (List ℕ)} {ns : List Grant} {used : List ℕ} {w₁ w₂ : Writer} {c : List ℕ} (l : List ℕ) (n : Grant) (u : ℕ)
+      → Filling w cs ns used w₁ → Fills w₁ l n c u w₂ → Filling w (cs ++ (c ∷ [])) (ns ++ (n ∷ [])) (used ++ take u l) w₂
+
+-- a grant of nothing
+abbrev pub zeroGrant : Grant
+zeroGrant = record { shc = false; rp = 0; req = 0; rsp = 0; snp = 0; dat = 0 }
+
+-- accepted fills of one list under one grant, each with what is left of the list: the containers, and the bytes used
+pub data FillingList (w : Writer) (l : List ℕ) (n : Grant) : List (List ℕ) → ℕ → Writer → Type 0 where
+  none : FillingList w l n [] 0 w
+  then : {cs : List (List ℕ)} {at : ℕ} {w₁ w₂ : Writer} {c : List ℕ} (u : ℕ)
+      → FillingList w l n cs at w₁ → Fills w₁ (drop at l) n c u w₂ → FillingList w l n (cs ++ (c ∷ [])) (at + u) w₂
+
+-- an accepted reading: the reader s reads c, answers the grant n, hands out the records out, and becomes s′
+pub record Reads (s : Reader) (c : List ℕ) (n : Grant) (out : List ℕ) (s′ : Reader) : Type 0 where
+  pub answer : (room : ℕ) → 352 ≤ room → reading s c room .answer ≡ read.Done (length out) n
+  pub next : (room : ℕ) → 352 ≤ room → reading s c room .reader ≡ s′
+  pub handed : records s c ≡ out
+
+-- accepted readings one after the other: the containers, the grants answered, and the records handed out
+pub data Reading (s : Reader) : List (List ℕ) → List Grant → List ℕ → Reader → Type 0 where
+  none : Reading s [] [] [] s
+  then : {cs : List (List ℕ)} {ns : List Grant} {out more : List ℕ} {s₁ s₂ : Reader} {c : List ℕ} {n : Grant}
+      → Reading s cs ns out s₁ → Reads s₁ c n more s₂ → Reading s (cs ++ (c ∷ [])) (ns ++ (n ∷ [])) (out ++ more) s₂
+
+-- the message that is begun and not yet finished: what is carried and the tail owed, as a record
+abbrev pub underWay : Reader → Writer → List ℕ
+underWay s w = pick (eqb (length (tailOf w)) 0) [] (recordOf (carried s ++ tailOf w))

@@ -1,0 +1,6 @@
+pub mod Plan
+pub mod Laying
+pub mod OneWay
+pub mod Filling
+pub mod Calls
+pub mod Holding

@@ -1,0 +1,54 @@
+-- The writer's one way (document 01), record by record: what is owed first, from G0; then each record at the lowest legal granule above
+-- the last granule that the message before it occupies.
+use Prim.Native.Nat.{ℕ, _+_, _*_, _/_, _≤_, _<_}
+use mathlib.Core.Path.{_≡_}
+use mathlib.Core.Bool.{Bool, true, false}
+use mathlib.Core.List.{List}
+use lib.ListN.{length, getD, take, drop}
+use Rattle.container.specs.Layout.{Format, wide}
+use Rattle.container.specs.declared.grant.Grant.{Grant}
+use Rattle.record.specs.Records.{firstOf, messageOf}
+use Rattle.record.specs.declared.list.First.the-variants.{Whole}
+use Rattle.reader.specs.Cells.{Cell}
+use Rattle.writer.specs.Plan.{emptyCell, startCell, onCell, legal}
+
+-- cell j of the cells of a container
+abbrev pub cellOf : List Cell → ℕ → Cell
+cellOf es j = getD es j (emptyCell 0)
+
+-- the cells below granule j of its group
+abbrev pub groupAt : List Cell → ℕ → List Cell
+groupAt es j = drop (3 * (j / 3)) (take j es)
+
+-- granule j is legal for a message behind the cells below it
+abbrev pub mayStart : Format → Grant → List Cell → ℕ → List ℕ → Bool
+mayStart fm n es j m = legal fm n j (groupAt es j) m
+
+-- no granule from g on and below h is legal for a message
+abbrev pub NoneLegal : Format → Grant → List Cell → ℕ → ℕ → List ℕ → Type 0
+NoneLegal fm n es g h m = (j : ℕ) → g ≤ j → j < h → mayStart fm n es j m ≡ false
+
+-- the granules from g on and below h stay empty
+abbrev pub Empties : Format → List Cell → ℕ → ℕ → Type 0
+Empties fm es g h = (j : ℕ) → g ≤ j → j < h → cellOf es j ≡ emptyCell (fm .size j)
+
+-- the cells es from granule g on, with t owed and at bytes of the list l used below it, where used bytes are used and owes is owed
+-- behind the last granule
+pub data Way (fm : Format) (n : Grant) (l : List ℕ) (es : List Cell) (used : ℕ) (owes : List ℕ) : ℕ → List ℕ → ℕ → Type 0 where
+  -- what is owed goes on in a granule of 20 bytes
+  goes-on : {g at : ℕ} {t : List ℕ} → g < 12 → 0 < length t → wide fm g ≡ true → cellOf es g ≡ onCell (fm .size g) t
+      → Way fm n l es used owes (g + 1) (drop (fm .size g) t) at → Way fm n l es used owes g t at
+  -- it passes over a smaller one, which stays empty
+  passes-over : {g at : ℕ} {t : List ℕ} → g < 12 → 0 < length t → wide fm g ≡ false → cellOf es g ≡ emptyCell (fm .size g)
+      → Way fm n l es used owes (g + 1) t at → Way fm n l es used owes g t at
+  -- the next record goes to the lowest legal granule above the last granule that the message before it occupies
+  starts : {g at : ℕ} {t : List ℕ} (h start end : ℕ) → g ≤ h → h < 12 → length t ≡ 0 → firstOf (drop at l) ≡ Whole start end
+      → mayStart fm n es h (messageOf (drop at l) start end) ≡ true → NoneLegal fm n es g h (messageOf (drop at l) start end) → Empties fm es g h
+      → cellOf es h ≡ startCell (fm .size h) (messageOf (drop at l) start end)
+      → Way fm n l es used owes (h + 1) (drop (fm .size h) (messageOf (drop at l) start end)) (at + end) → Way fm n l es used owes g t at
+  -- it stops where the list ends or no legal granule is left
+  stops : {g at : ℕ} {t : List ℕ} → g ≤ 12 → length t ≡ 0
+      → ((start end : ℕ) → firstOf (drop at l) ≡ Whole start end → NoneLegal fm n es g 12 (messageOf (drop at l) start end))
+      → Empties fm es g 12 → used ≡ at → owes ≡ t → Way fm n l es used owes g t at
+  -- the last granule is behind
+  ends : {g at : ℕ} {t : List ℕ} → g ≡ 12 → used ≡ at → owes ≡ t → Way fm n l es used owes g t at

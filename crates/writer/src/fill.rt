@@ -1,0 +1,82 @@
+// A granule filled in its own part of the container, and the header written.
+ghost use mathlib.Core.Path.{_≡_};
+ghost use Prim.Native.Nat.{_≤_, _<_};
+ghost use lib.ListN.{length, getD, replicate};
+ghost use Rattle.lists.specs.Parts.{put, pad};
+ghost use Rattle.container.specs.Layout.{formatOf, start};
+ghost use Rattle.writer.specs.Laying.{headerBytes, setAll};
+use container::Grant;
+use container::byte_at;
+use container::locate_granule;
+use container::locate_header;
+use container::measure_granule;
+
+// Copies src to the front of a part and writes zeros behind it, `size` bytes in all.
+fn copy_and_zero(part: &mut [u8], src: &[u8], size: usize)
+    requires { ⌜ (length (now src) ≤ size) × (size ≤ length (now part)) ⌝ }
+    ensures { λ _. ⌜ now (part .exit) ≡ put 0 (pad size (now (src .entry))) (now (part .entry)) ⌝ }
+{
+    let mut i = 0;
+    while i < size {
+        part[i] = byte_at(src, i);
+        i += 1;
+    }
+}
+
+// Fills granule g with src and zeros behind it.
+pub fn fill_granule(container: &mut [u8], format: u32, g: u8, src: &[u8])
+    requires { ⌜ (length (now container) ≡ 256) × (g < 12) ⌝ }
+    requires { ⌜ length (now src) ≤ formatOf format .size g ⌝ }
+    ensures { λ _. ⌜ now (container .exit) ≡ put (start g) (pad (formatOf format .size g) (now (src .entry))) (now (container .entry)) ⌝ }
+{
+    let a = locate_granule(g);
+    let size = measure_granule(format, g);
+    copy_and_zero(&mut container[a..], src, size);
+}
+
+// Writes zeros everywhere.
+pub fn clear_container(container: &mut [u8])
+    ensures { λ _. ⌜ now (container .exit) ≡ replicate (length (now (container .entry))) 0 ⌝ }
+{
+    let mut i = 0;
+    while i < container.len() {
+        container[i] = 0;
+        i += 1;
+    }
+}
+
+// Header byte Pi under a MsgStart and a grant.
+fn form_header(starts: u16, grant: Grant, i: u8) -> u8
+    requires { ⌜ (starts < 4096) × (grant .rp < 8) ⌝ }
+    ensures { λ r. ⌜ r ≡ getD (headerBytes grant starts) i 0 ⌝ }
+{
+    match i {
+        0 => (starts % 256) as u8,
+        1 => (starts / 256) as u8,
+        2 => {
+            if grant.shc {
+                return 1 + 2 * grant.rp;
+            }
+            2 * grant.rp
+        }
+        3 => grant.req,
+        4 => grant.rsp,
+        5 => grant.snp,
+        6 => grant.dat,
+        7..=255 => 0,
+    }
+}
+
+// Writes the header bytes, each at its place.
+pub fn write_header(container: &mut [u8], format: u32, starts: u16, grant: Grant)
+    requires { ⌜ length (now container) ≡ 256 ⌝ }
+    requires { ⌜ (starts < 4096) × (grant .rp < 8) ⌝ }
+    ensures { λ _. ⌜ now (container .exit) ≡ setAll (formatOf format .place) 0 (headerBytes grant starts) (now (container .entry)) ⌝ }
+{
+    let mut i: u8 = 0;
+    while i < 10 {
+        let at = locate_header(format, i);
+        container[at] = form_header(starts, grant, i);
+        i += 1;
+    }
+}

@@ -1,0 +1,185 @@
+// The writer: a state by value that fills lent containers.
+ghost use mathlib.Core.Path.{_≡_};
+ghost use mathlib.Core.Bool.{_&&_};
+ghost use Prim.Native.Nat.{_≤_, _<_, _+_};
+ghost use lib.ListN.{length};
+ghost use lib.Dec.{ltb};
+ghost use Rattle.lists.specs.Pick.{pick};
+ghost use Rattle.lists.specs.Parts.{pad};
+ghost use Rattle.cause.specs.Checks.{firstFault};
+ghost use Rattle.container.specs.Grants.{planeAllowed};
+ghost use Rattle.writer.specs.Filling.{writerOk, opened, callChecks, fillFault, filling, fillBytes};
+ghost use Rattle.writer.specs.Holding.{owedOf};
+use cause::{Cause, Verdict};
+use container::{allows_plane, is_zero, Grant};
+use record::check_list;
+use crate::fill::write_header;
+use crate::pen::{fill_granules, Pen};
+
+// A format, and the tail that is owed of a message begun before, with zeros behind.
+pub struct Writer {
+    pub format: u32,
+    pub tail: [u8; 100],
+    pub len: usize,
+}
+
+// The answer of a fill: the bytes of the list used, or the refusal.
+pub enum Answer {
+    Filled { used: usize },
+    Refused { cause: Cause, place: u64 },
+}
+
+// The next writer and the answer.
+pub struct Step {
+    pub writer: Writer,
+    pub answer: Answer,
+}
+
+// A new writer, and whether its format is one.
+pub struct Opened {
+    pub writer: Writer,
+    pub verdict: Verdict,
+}
+
+// Whether a grant may stand in a header.
+fn is_grant(grant: Grant) -> bool
+    ensures { λ r. ⌜ r ≡ (ltb (grant .rp) 8 && planeAllowed grant) ⌝ }
+{
+    if grant.rp < 8 {
+        return allows_plane(grant);
+    }
+    false
+}
+
+// The bytes of a part of at most 100 bytes, with zeros behind.
+fn copy_tail(part: &[u8]) -> [u8; 100]
+    requires { ⌜ length (now part) ≤ 100 ⌝ }
+    ensures { λ r. ⌜ r ≡ pad 100 (now (part .entry)) ⌝ }
+{
+    let mut out = [0u8; 100];
+    let mut i = 0;
+    while i < part.len() {
+        out[i] = part[i];
+        i += 1;
+    }
+    out
+}
+
+// What is owed behind a container, with zeros behind.
+fn keep_tail(pen: Pen, tail: &[u8], list: &[u8]) -> [u8; 100]
+    requires { ⌜ (pen .left ≤ 100) × (pen .from ≤ 4300) ⌝ }
+    requires { ⌜ (0 < pen .left → pen .from + pen .left ≤ length (pick (pen .tail) (now tail) (now list))) ⌝ }
+    ensures { λ r. ⌜ r ≡ pad 100 (owedOf (now (tail .entry)) (now (list .entry)) pen) ⌝ }
+{
+    let from = pen.from;
+    let left = pen.left;
+    if left == 0 {
+        return [0u8; 100];
+    }
+    let end = from + left;
+    if pen.tail {
+        return copy_tail(&tail[from..end]);
+    }
+    copy_tail(&list[from..end])
+}
+
+impl Writer {
+    // A writer of a format, with nothing owed.
+    pub fn fresh(format: u32) -> Opened
+        ensures { λ r. ⌜ r ≡ opened format ⌝ }
+    {
+        let writer = Writer {
+            format: format,
+            tail: [0u8; 100],
+            len: 0,
+        };
+        if format < 2 {
+            return Opened {
+                writer: writer,
+                verdict: Verdict::Sound,
+            };
+        }
+        Opened {
+            writer: writer,
+            verdict: Verdict::Faulty(Cause::InvalidState, 0),
+        }
+    }
+
+    // Whether the state is valid.
+    fn is_valid(self) -> bool
+        ensures { λ r. ⌜ r ≡ writerOk self ⌝ }
+    {
+        let len = self.len;
+        let tail = self.tail;
+        if 2 <= self.format {
+            return false;
+        }
+        if 100 < len {
+            return false;
+        }
+        if len % 20 != 0 {
+            return false;
+        }
+        is_zero(&tail[len..])
+    }
+
+    // State, container length, list length and grant: causes 19, 1, 18 and 4.
+    fn check_call(self, length: usize, grant: Grant, size: usize) -> Verdict
+        ensures { λ r. ⌜ r ≡ firstFault (callChecks self length grant size) ⌝ }
+    {
+        if !self.is_valid() {
+            return Verdict::Faulty(Cause::InvalidState, 0);
+        }
+        if size != 256 {
+            return Verdict::Faulty(Cause::ContainerLength, 0);
+        }
+        if 4096 < length {
+            return Verdict::Faulty(Cause::TooLong, 0);
+        }
+        if !is_grant(grant) {
+            return Verdict::Faulty(Cause::HeaderGrantForm, 0);
+        }
+        Verdict::Sound
+    }
+
+    // All that is judged before a fill: then the list, cause 17.
+    fn check_fill(self, list: &[u8], grant: Grant, size: usize) -> Verdict
+        ensures { λ r. ⌜ r ≡ fillFault self (now (list .entry)) grant size ⌝ }
+    {
+        let call = self.check_call(list.len(), grant, size);
+        if let Verdict::Faulty(_, _) = call {
+            return call;
+        }
+        check_list(list)
+    }
+
+    // Fills a container from the front of a list, under a header grant.
+    pub fn fill(self, list: &[u8], grant: Grant, container: &mut [u8]) -> Step
+        ensures step { λ r. ⌜ r ≡ filling self (now (list .entry)) grant (length (now (container .entry))) ⌝ }
+        ensures bytes { λ _. ⌜ now (container .exit) ≡ fillBytes self (now (list .entry)) grant (now (container .entry)) ⌝ }
+    {
+        let verdict = self.check_fill(list, grant, container.len());
+        if let Verdict::Faulty(cause, place) = verdict {
+            return Step {
+                writer: self,
+                answer: Answer::Refused {
+                    cause: cause,
+                    place: place,
+                },
+            };
+        }
+        let format = self.format;
+        let tail = self.tail;
+        let len = self.len;
+        let pen = fill_granules(format, grant, &tail[0..len], list, container);
+        write_header(container, format, pen.starts, grant);
+        Step {
+            writer: Writer {
+                format: format,
+                tail: keep_tail(pen, &tail[0..len], list),
+                len: pen.left,
+            },
+            answer: Answer::Filled { used: pen.at },
+        }
+    }
+}
