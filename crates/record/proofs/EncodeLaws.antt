@@ -97,4 +97,3 @@ module _ (value : ℕ) (bytes : List ℕ) (rest len : ℕ) (h : Encoding value b
     where
       long : length (drop len (number value)) ≡ 1 → length (number value) ≡ len + 1
       long e = let k = length-drop len (number value) in omega arith
-

@@ -59,7 +59,8 @@ module _ (w : Writer) (l : List ℕ) (n : Grant) (c : List ℕ) (k : Cause) (q :
   unfolding filling
   fill-refused = λ i. record {
     writer = whenSound (sym e i) (writerWith (w .format) (owesAfter (formatOf (w .format)) n (tailOf w) l)) w;
-    answer = answerOf (sym e i) (usedOf (formatOf (w .format)) n (tailOf w) l) }
+    answer = answerOf (sym e i) (usedOf (formatOf (w .format)) n (tailOf w) l);
+  }
 
   pub bytes-refused : c ≡ fillBytes w l n c
   unfolding fillBytes
@@ -112,7 +113,7 @@ module _ (w : Writer) (l : List ℕ) (n : Grant) (c : List ℕ) (long : length (
         let at : a ≡ pad 100 (owesAfter fm n (tailOf w) l) = ea ∙ ap (pad 100) owes in
         let len : p .left ≡ length (owesAfter fm n (tailOf w) l) = sym (owed-length t l 12 p sane) ∙ ap length owes in
         let used : p .at ≡ usedOf fm n (tailOf w) l =
-            ap (λ (x : Pen). x .at) ep ∙ sym (held-used (w .format) n t l (fill-asks .1 .0) (fill-asks .1 .1) (can .short)) ∙ ap (λ (x : List ℕ). usedOf fm n x l) (tail-part w) in
+        ap (λ (x : Pen). x .at) ep ∙ sym (held-used (w .format) n t l (fill-asks .1 .0) (fill-asks .1 .1) (can .short)) ∙ ap (λ (x : List ℕ). usedOf fm n x l) (tail-part w) in
         (λ i. record { writer = record { format = w .format; tail = at i; len = len i }; answer = answer.Filled (used i) })
         ∙ (λ i. record { writer = whenSound (sym e i) (writerWith (w .format) (owesAfter fm n (tailOf w) l)) w; answer = answerOf (sym e i) (usedOf fm n (tailOf w) l) })
 

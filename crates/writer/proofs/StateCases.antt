@@ -52,7 +52,8 @@ writer-ok w e =
     record {
       format = ltb-true (w .format) 2 (and-left (ltb (w .format) 2) (leb (w .len) 100 && (eqb (w .len % 20) 0 && zeros (drop (w .len) (w .tail)))) e);
       short = leb-true (w .len) 100 (and-left (leb (w .len) 100) (eqb (w .len % 20) 0 && zeros (drop (w .len) (w .tail))) a);
-      granules = eqb-true (w .len % 20) 0 (and-left (eqb (w .len % 20) 0) (zeros (drop (w .len) (w .tail))) b) }
+      granules = eqb-true (w .len % 20) 0 (and-left (eqb (w .len % 20) 0) (zeros (drop (w .len) (w .tail))) b);
+    }
 
 -- the checks of a call
 module _ (w : Writer) (k : ℕ) (n : Grant) (size : ℕ) where
@@ -108,4 +109,5 @@ fill-callable w l n size e =
       valid = writer-ok w (p .0);
       whole = eqb-true size 256 (p .1 .0);
       short = leb-true (length l) 4096 (p .1 .1 .0);
-      plane = ltb-true (n .rp) 8 (and-left (ltb (n .rp) 8) (planeAllowed n) (p .1 .1 .1 .0)) }
+      plane = ltb-true (n .rp) 8 (and-left (ltb (n .rp) 8) (planeAllowed n) (p .1 .1 .1 .0));
+    }

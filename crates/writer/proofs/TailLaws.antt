@@ -21,7 +21,8 @@ module _ (n : ℕ) (x out : List ℕ) (i : ℕ) (fits : length x ≤ n) (h : Kep
   kept-more l = record {
     within = omega arith;
     made = ap (λ (r : List ℕ). set r i (getD x i 0)) (h .made) ∙ ap (set (grown (pad n x) (replicate n 0) i) i) (sym (getD-pad n x i))
-      ∙ grown-more (pad n x) (replicate n 0) i 0 (rw (length-pad n x fits) (omega arith)) (rw (length-replicate {A = ℕ} n 0) (omega arith)) }
+        ∙ grown-more (pad n x) (replicate n 0) i 0 (rw (length-pad n x fits) (omega arith)) (rw (length-replicate {A = ℕ} n 0) (omega arith));
+  }
 
   pub kept-all : length x ≤ i → out ≡ pad n x
   kept-all l =

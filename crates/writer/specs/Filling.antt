@@ -59,7 +59,8 @@ answerOf (Faulty c p) used = answer.Refused c p
 unfoldable pub filling : Writer → List ℕ → Grant → ℕ → Step
 filling w l n size = record {
   writer = whenSound (fillFault w l n size) (writerWith (w .format) (owesAfter (formatOf (w .format)) n (tailOf w) l)) w;
-  answer = answerOf (fillFault w l n size) (usedOf (formatOf (w .format)) n (tailOf w) l) }
+  answer = answerOf (fillFault w l n size) (usedOf (formatOf (w .format)) n (tailOf w) l);
+}
 
 -- the container after a fill: all its bytes, or as it was
 unfoldable pub fillBytes : Writer → List ℕ → Grant → List ℕ → List ℕ

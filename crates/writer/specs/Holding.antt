@@ -55,7 +55,8 @@ penEmpty g p = record {
   left = p .left;
   at = p .at;
   starts = p .starts;
-  group = groupNext g (p .group) false 0 0 }
+  group = groupNext g (p .group) false 0 0;
+}
 
 -- what is owed goes on in granule g
 abbrev pub penOn : ℕ → Pen → Pen
@@ -65,7 +66,8 @@ penOn g p = record {
   left = p .left - 20;
   at = p .at;
   starts = p .starts;
-  group = groupNext g (p .group) true 0 0 }
+  group = groupNext g (p .group) true 0 0;
+}
 
 -- the record from start to end of what is left of the list starts in granule g of n bytes, with type t
 abbrev pub penStart : ℕ → ℕ → Pen → ℕ → ℕ → ℕ → Pen
@@ -75,7 +77,8 @@ penStart n g p s e t = record {
   left = (e - s) - n;
   at = p .at + e;
   starts = p .starts + 2 ^ g;
-  group = groupNext g (p .group) true (miscsBy t) (responsesBy t) }
+  group = groupNext g (p .group) true (miscsBy t) (responsesBy t);
+}
 
 -- the next pen where nothing is owed, by the first record of what is left of the list
 abbrev pub penFirst : Format → Grant → List ℕ → ℕ → Pen → First → Pen

@@ -63,7 +63,8 @@ startNext fm n l g w (Whole start end) =
     (record {
       cell = startCell (fm .size g) (messageOf (drop (w .at) l) start end);
       owes = drop (fm .size g) (messageOf (drop (w .at) l) start end);
-      at = w .at + end })
+      at = w .at + end;
+    })
     (nothing fm g w)
 
 -- granule g, with l the whole list: what is owed goes on, passing over a granule of fewer than 20 bytes

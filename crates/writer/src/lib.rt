@@ -4,4 +4,7 @@ mod group;
 mod pen;
 mod writer;
 
-pub use writer::{Answer, Opened, Step, Writer};
+pub use writer::Answer;
+pub use writer::Opened;
+pub use writer::Step;
+pub use writer::Writer;

@@ -10,11 +10,15 @@ ghost use Rattle.cause.specs.Checks.{firstFault};
 ghost use Rattle.container.specs.Grants.{planeAllowed};
 ghost use Rattle.writer.specs.Filling.{writerOk, opened, callChecks, fillFault, filling, fillBytes};
 ghost use Rattle.writer.specs.Holding.{owedOf};
-use cause::{Cause, Verdict};
-use container::{allows_plane, is_zero, Grant};
-use record::check_list;
 use crate::fill::write_header;
-use crate::pen::{fill_granules, Pen};
+use crate::pen::Pen;
+use crate::pen::fill_granules;
+use cause::Cause;
+use cause::Verdict;
+use container::Grant;
+use container::allows_plane;
+use container::is_zero;
+use record::check_list;
 
 // A format, and the tail that is owed of a message begun before, with zeros behind.
 pub struct Writer {

@@ -17,9 +17,10 @@ enum-known-verdict c = search needs
 returns : tie.Need-returns
 returns c =
     let start = c .before .before .before .before .before .before in
-    let faulty = sym (c .before .before .before .check-fill .ensures) ∙ c .before .verdict .given .1 in
-    (fill-refused (start .args .self) (start .args .list .now) (start .args .grant) (start .args .container .now) _ _ faulty,
-    bytes-refused (start .args .self) (start .args .list .now) (start .args .grant) (start .args .container .now) _ _ faulty)
+    let faulty = sym (c .before .before .before .check-fill .ensures) ∙ c .before .verdict .given .1 in (
+      fill-refused (start .args .self) (start .args .list .now) (start .args .grant) (start .args .container .now) _ _ faulty,
+      bytes-refused (start .args .self) (start .args .list .now) (start .args .grant) (start .args .container .now) _ _ faulty,
+    )
 
 enum-told : tie.Need-enum-told
 enum-told c = search needs
@@ -92,9 +93,10 @@ keep-tail-requires c κs =
     let b = start .args .container .now in
     let long : length (w .tail) ≡ 100 = search needs in
     let sound = sym (c .before .before .before .before .before .before .before .before .before .before .before .before .before .before .before .check-fill .ensures) ∙ c .before .before .before .before .before .before .before .before .before .before .before .before .before .enum-told .given .1 in
-    let filled = c .before .before .before .before .before .before .before .before .fill-granules in
-    ((left-low w l n b long sound (filled .result) (filled .ensures .0), from-low w l n b long sound (filled .result) (filled .ensures .0)),
-    left-within w l n b long sound (filled .result) (filled .ensures .0))
+    let filled = c .before .before .before .before .before .before .before .before .fill-granules in (
+      (left-low w l n b long sound (filled .result) (filled .ensures .0), from-low w l n b long sound (filled .result) (filled .ensures .0)),
+      left-within w l n b long sound (filled .result) (filled .ensures .0),
+    )
 
 same-length : tie.Need-same-length
 same-length c = search needs
@@ -108,9 +110,10 @@ returns-2 c =
     let b = start .args .container .now in
     let long : length (w .tail) ≡ 100 = search needs in
     let sound = sym (c .before .before .before .before .before .before .before .before .before .before .before .before .before .before .before .before .check-fill .ensures) ∙ c .before .before .before .before .before .before .before .before .before .before .before .before .before .before .enum-told .given .1 in
-    let filled = c .before .before .before .before .before .before .before .before .before .fill-granules in
-    (fill-done w l n b long sound (filled .result) (filled .ensures .0) (c .keep-tail .result) (c .keep-tail .ensures),
-    bytes-done w l n b long sound (filled .result) (filled .ensures .0) _ _ (filled .ensures .1) (c .before .before .before .before .before .write-header .ensures))
+    let filled = c .before .before .before .before .before .before .before .before .before .fill-granules in (
+      fill-done w l n b long sound (filled .result) (filled .ensures .0) (c .keep-tail .result) (c .keep-tail .ensures),
+      bytes-done w l n b long sound (filled .result) (filled .ensures .0) _ _ (filled .ensures .1) (c .before .before .before .before .before .write-header .ensures),
+    )
 
 pub fill-spec : {M : Type 1} → statement M
 fill-spec =
