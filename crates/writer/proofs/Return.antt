@@ -1,15 +1,16 @@
 -- Demand 2, the return of messages: what a new writer has filled, a new reader of the same format reads back. Assumes nothing.
 use Prim.Native.Nat.{ℕ, _<_}
 use mathlib.Core.Path.{_≡_, refl, sym, ap, _∙_, subst}
-use mathlib.Core.List.{List, [], _++_, append-assoc}
-use lib.ListN.{length, take}
+use mathlib.Core.List.{List, [], _∷_, _++_, append-assoc}
+use lib.ListN.{length, take, drop}
+use lib.Seq.{take-add, take-length}
 use borrow.Author.Tests.{eq-eqb}
 use Rattle.lists.proofs.PartLaws.{append-nil}
 use Rattle.container.specs.declared.grant.Grant.{Grant}
 use Rattle.reader.specs.Reading.{readerWith}
 use Rattle.reader.specs.declared.reader.Reader.{Reader}
 use Rattle.writer.specs.Filling.{tailOf, writerWith}
-use Rattle.writer.specs.Calls.{Filling, none, then, Reading, underWay}
+use Rattle.writer.specs.Calls.{Filling, none, then, FillingLeft, Reading, underWay}
 use Rattle.writer.specs.declared.writer.Writer.{Writer}
 use Rattle.writer.proofs.Simulation.{idle}
 use Rattle.writer.proofs.RoundTrip.{Linked, fill-read}
@@ -55,3 +56,16 @@ all-returned f cs ns used w small h e =
     let r = return-of-messages f cs ns used w small h in
     let all : r .out ≡ used = sym (r .same ∙ rw (eq-eqb (length (tailOf w)) 0 e) (append-nil (r .out))) in
     (r .reader, subst (λ (x : List ℕ). Reading (readerWith f []) cs ns x (r .reader)) all (r .readings))
+
+-- fills of one list, each with what is left of it, use its front
+pub left-fills : {w : Writer} {l : List ℕ} {cs : List (List ℕ)} {ns : List Grant} {at : ℕ} {w′ : Writer} → FillingLeft w l cs ns at w′
+    → Filling w cs ns (take at l) w′
+left-fills none = none
+left-fills {w = w} {l = l} (then {cs = cs} {ns = ns} {at = at} {w₂ = w₂} {c = c} n u before h) =
+    subst (λ (x : List ℕ). Filling w (cs ++ (c ∷ [])) (ns ++ (n ∷ [])) x w₂) (sym (take-add at u l)) (then (drop at l) n u (left-fills before) h)
+
+-- a list that is used up with no tail owed comes out whole
+pub list-returned : (f : ℕ) (l : List ℕ) (cs : List (List ℕ)) (ns : List Grant) (w : Writer) → f < 2
+    → FillingLeft (writerWith f []) l cs ns (length l) w → length (tailOf w) ≡ 0 → (s : Reader) × Reading (readerWith f []) cs ns l s
+list-returned f l cs ns w small h e =
+    all-returned f cs ns l w small (subst (λ (x : List ℕ). Filling (writerWith f []) cs ns x w) (take-length l) (left-fills h)) e

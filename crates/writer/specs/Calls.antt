@@ -29,6 +29,12 @@ pub data Filling (w : Writer) : List (List ℕ) → List Grant → List ℕ → 
   then : {cs : List (List ℕ)} {ns : List Grant} {used : List ℕ} {w₁ w₂ : Writer} {c : List ℕ} (l : List ℕ) (n : Grant) (u : ℕ)
       → Filling w cs ns used w₁ → Fills w₁ l n c u w₂ → Filling w (cs ++ (c ∷ [])) (ns ++ (n ∷ [])) (used ++ take u l) w₂
 
+-- accepted fills of one list, each with any grant and with what is left of the list: the containers, the grants, and the bytes used
+pub data FillingLeft (w : Writer) (l : List ℕ) : List (List ℕ) → List Grant → ℕ → Writer → Type 0 where
+  none : FillingLeft w l [] [] 0 w
+  then : {cs : List (List ℕ)} {ns : List Grant} {at : ℕ} {w₁ w₂ : Writer} {c : List ℕ} (n : Grant) (u : ℕ)
+      → FillingLeft w l cs ns at w₁ → Fills w₁ (drop at l) n c u w₂ → FillingLeft w l (cs ++ (c ∷ [])) (ns ++ (n ∷ [])) (at + u) w₂
+
 -- a grant of nothing
 abbrev pub zeroGrant : Grant
 zeroGrant = record { shc = false; rp = 0; req = 0; rsp = 0; snp = 0; dat = 0 }

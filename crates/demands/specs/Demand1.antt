@@ -1,0 +1,26 @@
+-- Demand 1: a refusal changes no state and no byte of lent memory. That every input is answered, and that every call ends, is in the
+-- contracts: no public entry has a `requires`.
+use Prim.Native.Nat.{ℕ}
+use mathlib.Core.Path.{_≡_}
+use mathlib.Core.List.{List}
+use lib.ListN.{length}
+use Rattle.cause.specs.declared.Cause.{Cause}
+use Rattle.container.specs.declared.grant.Grant.{Grant}
+use Rattle.reader.specs.Reading.{reading, readRoom, judging}
+use Rattle.reader.specs.declared.reader.Reader.{Reader}
+use Rattle.reader.specs.declared.reader.Answer.the-variants as read
+use Rattle.reader.specs.declared.reader.Judgement.the-variants as judge
+use Rattle.writer.specs.Filling.{filling, fillBytes}
+use Rattle.writer.specs.declared.writer.Writer.{Writer}
+use Rattle.writer.specs.declared.writer.Answer.the-variants as fill
+
+-- "A refusal changes no state and no byte of lent memory"
+pub record Demand1 : Type 0 where
+  -- the reader, with any container and any room
+  pub read-state : (s : Reader) (c room : List ℕ) (k : Cause) (p : ℕ) → reading s c (length room) .answer ≡ read.Refused k p → reading s c (length room) .reader ≡ s
+  pub read-memory : (s : Reader) (c room : List ℕ) (k : Cause) (p : ℕ) → reading s c (length room) .answer ≡ read.Refused k p → readRoom s c room ≡ room
+  -- the judging entry, which lends no memory
+  pub judge-state : (s : Reader) (c : List ℕ) (k : Cause) (p : ℕ) → judging s c .judgement ≡ judge.Refused k p → judging s c .reader ≡ s
+  -- the writer, with any list, any grant and any container
+  pub fill-state : (w : Writer) (l : List ℕ) (n : Grant) (c : List ℕ) (k : Cause) (p : ℕ) → filling w l n (length c) .answer ≡ fill.Refused k p → filling w l n (length c) .writer ≡ w
+  pub fill-memory : (w : Writer) (l : List ℕ) (n : Grant) (c : List ℕ) (k : Cause) (p : ℕ) → filling w l n (length c) .answer ≡ fill.Refused k p → fillBytes w l n c ≡ c

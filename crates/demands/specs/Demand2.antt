@@ -1,0 +1,66 @@
+-- Demand 2: reading is exact, the writer's way is the one way, and what was written is read back.
+use Prim.Native.Nat.{ℕ, _*_, _≤_, _<_}
+use mathlib.Core.Path.{_≡_}
+use mathlib.Core.Bool.{true}
+use mathlib.Core.List.{List, [], _++_}
+use mathlib.Core.Logic.{_↔_}
+use lib.ListN.{length}
+use Rattle.lists.specs.Parts.{IsBytes}
+use Rattle.container.specs.Layout.{formatOf}
+use Rattle.container.specs.Grants.{headerGrant}
+use Rattle.container.specs.declared.grant.Grant.{Grant}
+use Rattle.record.specs.Records.{recordsOf, AllMessages}
+use Rattle.reader.specs.Cells.{Cell}
+use Rattle.reader.specs.Keeps.{Keeps, endedTo}
+use Rattle.reader.specs.Reading.{readerOk, readerWith, carried, records, reading}
+use Rattle.reader.specs.declared.reader.Reader.{Reader}
+use Rattle.reader.specs.declared.reader.Answer.the-variants.{Done}
+use Rattle.writer.specs.Laying.{containerOf}
+use Rattle.writer.specs.OneWay.{Way}
+use Rattle.writer.specs.Filling.{tailOf, writerWith, filling, fillBytes}
+use Rattle.writer.specs.Calls.{Filling, FillingLeft, FillingList, Reading, underWay, zeroGrant}
+use Rattle.writer.specs.declared.writer.Writer.{Writer}
+use Rattle.writer.specs.declared.writer.Answer.the-variants.{Filled}
+
+-- the twelve cells of a container that an accepted fill of l under n with u bytes used has made of c
+pub record Laid (w : Writer) (l : List ℕ) (n : Grant) (c : List ℕ) (u : ℕ) : Type 0 where
+  pub cells : List Cell
+  pub owes : List ℕ
+  pub twelve : length cells ≡ 12
+  pub way : Way (formatOf (w .format)) n l cells u owes 0 (tailOf w) 0
+  pub bytes : fillBytes w l n c ≡ containerOf (formatOf (w .format)) n cells
+  pub next : filling w l n (length c) .writer ≡ writerWith (w .format) owes
+
+-- what a fresh reader makes of containers: the records handed out and the last reader
+pub record ReadBack (f : ℕ) (cs : List (List ℕ)) (ns : List Grant) (used : List ℕ) (w : Writer) : Type 0 where
+  pub reader : Reader
+  pub out : List ℕ
+  pub readings : Reading (readerWith f []) cs ns out reader
+  pub same : used ≡ out ++ underWay reader w
+
+-- the fills of a list under zero grants that use it up with no tail owed
+pub record UsedUp (f : ℕ) (l : List ℕ) (p : ℕ) : Type 0 where
+  pub containers : List (List ℕ)
+  pub writer : Writer
+  pub fills : FillingList (writerWith f []) l zeroGrant containers (length l) writer
+  pub owes-none : length (tailOf writer) ≡ 0
+  pub few : length containers ≤ p
+
+pub record Demand2 : Type 0 where
+  -- "From a valid state and with the room our paper names, a container of either format is read exactly when it keeps the CHI C2C
+  -- packing rules as our paper completes them"
+  pub read-exactly : (s : Reader) (c : List ℕ) (room : ℕ) → readerOk s ≡ true → length c ≡ 256 → 352 ≤ room
+      → (reading s c room .answer ≡ Done (length (records s c)) (headerGrant (formatOf (s .format)) c)) ↔ Keeps (formatOf (s .format)) (carried s) c
+  -- "and its messages come out in order of completion"
+  pub in-order : (s : Reader) (c : List ℕ) → records s c ≡ recordsOf (endedTo (formatOf (s .format)) c (carried s) 12)
+  -- "The writer fills each container in the one way the paper fixes."
+  pub one-way : (w : Writer) (l : List ℕ) (n : Grant) (c : List ℕ) (u : ℕ) → filling w l n (length c) .answer ≡ Filled u → Laid w l n c u
+  -- "Once a writer started fresh has used up a list and owes no tail, reading its containers in order from a fresh state gives the same
+  -- messages in the same order."
+  pub returned : (f : ℕ) (l : List ℕ) (cs : List (List ℕ)) (ns : List Grant) (w : Writer) → f < 2
+      → FillingLeft (writerWith f []) l cs ns (length l) w → length (tailOf w) ≡ 0 → (s : Reader) × Reading (readerWith f []) cs ns l s
+  -- before that, and with any list at each call: what has come out and what is under way are what was used
+  pub so-far : (f : ℕ) (cs : List (List ℕ)) (ns : List Grant) (used : List ℕ) (w : Writer) → f < 2 → Filling (writerWith f []) cs ns used w → ReadBack f cs ns used w
+  -- document 01: from fresh and with zero grants, n messages are all finished within 2n containers; within n, too
+  pub bound : (f : ℕ) (l : List ℕ) (ms : List (List ℕ)) → f < 2 → IsBytes l → length l ≤ 4096 → l ≡ recordsOf ms → AllMessages ms
+      → UsedUp f l (length ms) × UsedUp f l (2 * length ms)

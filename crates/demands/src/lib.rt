@@ -1,0 +1,1 @@
+// The demands as statements over the definitions; no code.
