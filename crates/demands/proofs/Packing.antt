@@ -22,10 +22,10 @@ use Rattle.writer.specs.OneWay.{Way}
 use Rattle.writer.specs.Filling.{tailOf, writerWith, fillFault, answerOf, filling, fillBytes}
 use Rattle.writer.specs.declared.writer.Writer.{Writer}
 use Rattle.writer.specs.declared.writer.Answer.the-variants.{Filled, Refused}
-use Rattle.writer.proofs.Bound as bound
+use Rattle.writer.proofs.Bound.{within-n, within-2n}
 use Rattle.writer.proofs.OneWayLaws.{one-way-exactly}
 use Rattle.writer.proofs.Return.{return-of-messages, list-returned}
-use Rattle.demands.specs.Demand2.{Demand2, Laid, ReadBack, UsedUp}
+use Rattle.demands.specs.Demand2.{Demand2, Laid, ReadBack}
 
 -- the records of a container are those of the messages that end in it, by their last granules
 in-order : (s : Reader) (c : List ℕ) → records s c ≡ recordsOf (endedTo (formatOf (s .format)) c (carried s) 12)
@@ -50,10 +50,8 @@ one-way w l n c u e =
       twelve = k .0;
       way = k .1;
       bytes = rw (r .0);
-      next = rw (r .0) }
-
-used-up : (f : ℕ) (l : List ℕ) (p : ℕ) → bound.UsedUp f l p → UsedUp f l p
-used-up f l p h = record { containers = h .containers; writer = h .writer; fills = h .fills; owes-none = h .owes-none; few = h .few }
+      next = rw (r .0);
+    }
 
 pub demand2 : Demand2
 demand2 = record {
@@ -62,4 +60,5 @@ demand2 = record {
   one-way = one-way;
   returned = list-returned;
   so-far = λ f cs ns used w small h. let r = return-of-messages f cs ns used w small h in record { reader = r .reader; out = r .out; readings = r .readings; same = r .same };
-  bound = λ f l ms small hb short e a. (used-up f l _ (bound.within-n f l ms small hb short e a), used-up f l _ (bound.within-2n f l ms small hb short e a)) }
+  bound = λ f l ms small hb short e a. (within-n f l ms small hb short e a, within-2n f l ms small hb short e a);
+}

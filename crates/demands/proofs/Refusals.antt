@@ -39,4 +39,5 @@ demand1 = record {
   read-memory = λ s c room k p e. unchanged _ _ _ k p (read-faulty (firstFault (readChecks s c (length room))) (length (records s c)) (headerGrant (formatOf (s .format)) c) k p e);
   judge-state = λ s c k p e. unchanged _ _ _ k p (refused-faulty (firstFault (judgeChecks s c)) (headerGrant (formatOf (s .format)) c) (msgStart (formatOf (s .format)) c) k p e);
   fill-state = λ w l n c k p e. unchanged _ _ _ k p (fill-faulty (fillFault w l n (length c)) _ k p e);
-  fill-memory = λ w l n c k p e. unchanged _ _ _ k p (fill-faulty (fillFault w l n (length c)) _ k p e) }
+  fill-memory = λ w l n c k p e. unchanged _ _ _ k p (fill-faulty (fillFault w l n (length c)) _ k p e);
+}

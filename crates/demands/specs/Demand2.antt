@@ -18,7 +18,7 @@ use Rattle.reader.specs.declared.reader.Answer.the-variants.{Done}
 use Rattle.writer.specs.Laying.{containerOf}
 use Rattle.writer.specs.OneWay.{Way}
 use Rattle.writer.specs.Filling.{tailOf, writerWith, filling, fillBytes}
-use Rattle.writer.specs.Calls.{Filling, FillingLeft, FillingList, Reading, underWay, zeroGrant}
+use Rattle.writer.specs.Calls.{Filling, FillingLeft, UsedUp, Reading, underWay}
 use Rattle.writer.specs.declared.writer.Writer.{Writer}
 use Rattle.writer.specs.declared.writer.Answer.the-variants.{Filled}
 
@@ -37,14 +37,6 @@ pub record ReadBack (f : ℕ) (cs : List (List ℕ)) (ns : List Grant) (used : L
   pub out : List ℕ
   pub readings : Reading (readerWith f []) cs ns out reader
   pub same : used ≡ out ++ underWay reader w
-
--- the fills of a list under zero grants that use it up with no tail owed
-pub record UsedUp (f : ℕ) (l : List ℕ) (p : ℕ) : Type 0 where
-  pub containers : List (List ℕ)
-  pub writer : Writer
-  pub fills : FillingList (writerWith f []) l zeroGrant containers (length l) writer
-  pub owes-none : length (tailOf writer) ≡ 0
-  pub few : length containers ≤ p
 
 pub record Demand2 : Type 0 where
   -- "From a valid state and with the room our paper names, a container of either format is read exactly when it keeps the CHI C2C

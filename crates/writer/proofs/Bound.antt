@@ -31,7 +31,7 @@ use Rattle.reader.specs.declared.reader.Reader.{Reader}
 use Rattle.writer.specs.Plan.{startCell, onCell, legal, Pen, Given, give, penAfter, plan, penLast, penOf}
 use Rattle.writer.specs.Laying.{filled, owesAfter, usedOf}
 use Rattle.writer.specs.Filling.{tailOf, writerOk, writerWith, callChecks, fillFault, filling, fillBytes}
-use Rattle.writer.specs.Calls.{Fills, Filling, Reading, FillingList, none, then, zeroGrant}
+use Rattle.writer.specs.Calls.{Fills, Filling, Reading, FillingList, none, then, zeroGrant, UsedUp}
 use Rattle.writer.specs.declared.writer.Writer.{Writer}
 use Rattle.writer.proofs.Simulation.{Link, idle, busy, begun, message-most, short-ended, piece-ended, Left, sizeLength, is-next, legal-placed, Steps, give-next, give-on, give-over, step-followed}
 use Rattle.writer.proofs.Run.{Ran}
@@ -243,14 +243,6 @@ progress f s w l c u w′ k h some =
     rw (t, t′, ← a .used) (progress-with f (k .carry) (k .tail) l (ms .0) (k .link) (ms .1) _ r (rw t at some))
 
 -- ---- all fills of a list
-
--- fills of the list l, with grants of nothing from a new writer on, that use it up and owe nothing then, at most p of them
-pub record UsedUp (f : ℕ) (l : List ℕ) (p : ℕ) : Type 0 where
-  pub containers : List (List ℕ)
-  pub writer : Writer
-  pub fills : FillingList (writerWith f []) l zeroGrant containers (length l) writer
-  pub owes-none : length (tailOf writer) ≡ 0
-  pub few : length containers ≤ p
 
 -- what is left of a list, seen from what was left before
 left-here : (l : List ℕ) (at : ℕ) (ms : List (List ℕ)) → Left l at ms → Left (drop at l) 0 ms

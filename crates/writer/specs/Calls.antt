@@ -12,7 +12,7 @@ use Rattle.record.specs.Records.{recordOf}
 use Rattle.reader.specs.Reading.{carried, records, reading}
 use Rattle.reader.specs.declared.reader.Reader.{Reader}
 use Rattle.reader.specs.declared.reader.Answer.the-variants as read
-use Rattle.writer.specs.Filling.{tailOf, filling, fillBytes}
+use Rattle.writer.specs.Filling.{tailOf, writerWith, filling, fillBytes}
 use Rattle.writer.specs.declared.writer.Writer.{Writer}
 use Rattle.writer.specs.declared.writer.Answer.the-variants as fill
 
@@ -44,6 +44,14 @@ pub data FillingList (w : Writer) (l : List ℕ) (n : Grant) : List (List ℕ) �
   none : FillingList w l n [] 0 w
   then : {cs : List (List ℕ)} {at : ℕ} {w₁ w₂ : Writer} {c : List ℕ} (u : ℕ)
       → FillingList w l n cs at w₁ → Fills w₁ (drop at l) n c u w₂ → FillingList w l n (cs ++ (c ∷ [])) (at + u) w₂
+
+-- fills of a list under zero grants that use it up with no tail owed, at most p of them
+pub record UsedUp (f : ℕ) (l : List ℕ) (p : ℕ) : Type 0 where
+  pub containers : List (List ℕ)
+  pub writer : Writer
+  pub fills : FillingList (writerWith f []) l zeroGrant containers (length l) writer
+  pub owes-none : length (tailOf writer) ≡ 0
+  pub few : length containers ≤ p
 
 -- an accepted reading: the reader s reads c, answers the grant n, hands out the records out, and becomes s′
 pub record Reads (s : Reader) (c : List ℕ) (n : Grant) (out : List ℕ) (s′ : Reader) : Type 0 where
