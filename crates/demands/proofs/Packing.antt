@@ -23,6 +23,7 @@ use Rattle.writer.specs.Filling.{tailOf, writerWith, fillFault, answerOf, filli
 use Rattle.writer.specs.declared.writer.Writer.{Writer}
 use Rattle.writer.specs.declared.writer.Answer.the-variants.{Filled, Refused}
 use Rattle.writer.proofs.Bound.{within-n, within-2n}
+use Rattle.writer.proofs.LegalLaws.{plan-legal}
 use Rattle.writer.proofs.OneWayLaws.{one-way-exactly}
 use Rattle.writer.proofs.Return.{return-of-messages, list-returned}
 use Rattle.demands.specs.Demand2.{Demand2, Laid, ReadBack}
@@ -48,6 +49,7 @@ one-way w l n c u e =
       cells = plan fm n l 12 0 (penOf t);
       owes = owesAfter fm n t l;
       twelve = k .0;
+      legal = λ j m b. plan-legal (w .format) n l t j m b;
       way = k .1;
       bytes = rw (r .0);
       next = rw (r .0);

@@ -16,7 +16,7 @@ use Rattle.reader.specs.Reading.{readerOk, readerWith, carried, records, readin
 use Rattle.reader.specs.declared.reader.Reader.{Reader}
 use Rattle.reader.specs.declared.reader.Answer.the-variants.{Done}
 use Rattle.writer.specs.Laying.{containerOf}
-use Rattle.writer.specs.OneWay.{Way}
+use Rattle.writer.specs.OneWay.{Way, mayStart, KeepsWith}
 use Rattle.writer.specs.Filling.{tailOf, writerWith, filling, fillBytes}
 use Rattle.writer.specs.Calls.{Filling, FillingLeft, UsedUp, Reading, underWay}
 use Rattle.writer.specs.declared.writer.Writer.{Writer}
@@ -27,6 +27,8 @@ pub record Laid (w : Writer) (l : List ℕ) (n : Grant) (c : List ℕ) (u : ℕ)
   pub cells : List Cell
   pub owes : List ℕ
   pub twelve : length cells ≡ 12
+  -- legal means that the container so far, with the message there, keeps every placement rule
+  pub legal : (j : ℕ) (m : List ℕ) → j < 12 → (mayStart (formatOf (w .format)) n cells j m ≡ true) ↔ KeepsWith (formatOf (w .format)) n cells j m
   pub way : Way (formatOf (w .format)) n l cells u owes 0 (tailOf w) 0
   pub bytes : fillBytes w l n c ≡ containerOf (formatOf (w .format)) n cells
   pub next : filling w l n (length c) .writer ≡ writerWith (w .format) owes

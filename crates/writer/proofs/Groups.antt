@@ -1,14 +1,14 @@
 -- The groups of the writer's plan keep their rules. Assumes nothing.
 use Prim.Native.Nat.{ℕ, zero, suc, _+_, _%_, _≤_, _<_}
-use mathlib.Core.Path.{_≡_, refl, sym, ap, _∙_, subst}
+use mathlib.Core.Path.{_≡_, refl, _∙_, subst}
 use mathlib.Core.Bool.{Bool, true, false, _&&_, _||_, not}
 use mathlib.Core.List.{List, [], _∷_, _++_}
 use mathlib.Core.Logic.{_⊎_, inl, inr, ⊎-elim}
 use native.Mathlib.Omega.{arith}
-use native.Mathlib.Nat.{add-assoc, add-zero}
+use native.Mathlib.Nat.{add-zero}
 use lib.ListN.{length, drop}
 use lib.Dec.{eqb}
-use borrow.Author.Tests.{ne-eqb, eqb-false}
+use borrow.Author.Tests.{ne-eqb, eqb-true, eqb-false}
 use Rattle.lists.proofs.Tests.{cases, never-both, and-left, and-right, and-false}
 use Rattle.cause.specs.Checks.{Pass}
 use Rattle.container.specs.Layout.{Format, wide}
@@ -16,10 +16,13 @@ use Rattle.container.specs.Grants.{noCounts}
 use Rattle.container.specs.declared.grant.Grant.{Grant}
 use Rattle.message.specs.Heads.{isMisc, activation}
 use Rattle.message.specs.Places.{placed, miscs, responses}
-use Rattle.reader.specs.Cells.{Cell, after}
-use Rattle.reader.specs.Checking.{populated, nonePopulated, noGap, starting, sumOf, oneMisc, fourResponses, groupChecks}
-use Rattle.writer.specs.Plan.{emptyCell, startCell, onCell, groupOk, legal, Pen, Given, nothing, give, groupAfter, penAfter, plan}
-use Rattle.writer.proofs.Simulation.{Link, idle, busy, Left, step-followed, give-next, give-not, give-none, give-on, give-over}
+use Rattle.record.specs.Records.{firstOf, messageOf}
+use Rattle.record.specs.declared.list.First.{First}
+use Rattle.record.specs.declared.list.First.the-variants.{Empty, Bad, Whole}
+use Rattle.reader.specs.Cells.{Cell}
+use Rattle.reader.specs.Checking.{populated, nonePopulated, noGap, sumOf, oneMisc, fourResponses, groupChecks}
+use Rattle.writer.specs.Plan.{emptyCell, startCell, onCell, groupOk, legal, Pen, Given, nothing, startNext, give, groupAfter, penAfter, plan}
+use Rattle.writer.proofs.GroupLaws.{sum-both, ok-both, group-checks}
 
 -- every cell is populated
 abbrev pub allPopulated : List Cell → Bool
@@ -27,14 +30,6 @@ allPopulated [] = true
 allPopulated (e ∷ es) = populated e && allPopulated es
 
 -- ---- one more cell
-
-none-more : (es : List Cell) (e : Cell) → populated e ≡ false → nonePopulated (es ++ (e ∷ [])) ≡ nonePopulated es
-none-more [] e p = rw p
-none-more (x ∷ es) e p = ap (λ (b : Bool). not (populated x) && b) (none-more es e p)
-
-gap-empty : (es : List Cell) (e : Cell) → populated e ≡ false → noGap (es ++ (e ∷ [])) ≡ noGap es
-gap-empty [] e p = rw p
-gap-empty (x ∷ es) e p = rw (gap-empty es e p, none-more es e p)
 
 gap-full : (es : List Cell) (e : Cell) → allPopulated es ≡ true → noGap (es ++ (e ∷ [])) ≡ true
 gap-full [] e a = ⊎-elim (λ (p : populated e ≡ true). rw p) (λ (p : populated e ≡ false). rw p) (cases (populated e))
@@ -57,12 +52,8 @@ gap-all (x ∷ es) e p h =
     full : (noGap (es ++ (e ∷ [])) ≡ true → allPopulated (es ++ (e ∷ [])) ≡ true) → populated x ≡ true → allPopulated ((x ∷ es) ++ (e ∷ [])) ≡ true
     full ih q = rw q (ih (rw q at h))
 
-sum-more : (f : List ℕ → ℕ) (es : List Cell) (e : Cell) → sumOf f (es ++ (e ∷ [])) ≡ sumOf f es + starting f e
-sum-more f [] e = let x = starting f e in omega arith
-sum-more f (x ∷ es) e = rw (sum-more f es e) (sym (add-assoc (starting f x) (sumOf f es) (starting f e)))
-
 sum-idle : (f : List ℕ → ℕ) (es : List Cell) (e : Cell) → e .starts ≡ false → sumOf f (es ++ (e ∷ [])) ≡ sumOf f es
-sum-idle f es e p = sum-more f es e ∙ rw p (add-zero (sumOf f es))
+sum-idle f es e p = sum-both f es (e ∷ []) ∙ rw p (add-zero (sumOf f es))
 
 -- a cell in which nothing starts keeps the sums
 ok-idle : (es : List Cell) (e : Cell) → e .starts ≡ false → noGap (es ++ (e ∷ [])) ≡ true → groupOk es ≡ true → groupOk (es ++ (e ∷ [])) ≡ true
@@ -83,7 +74,7 @@ pub record Grown (g : ℕ) (es : List Cell) (v : Given) : Type 0 where
 module _ (fm : Format) (n : Grant) (g : ℕ) (narrow-last : wide fm g ≡ false → g % 3 ≡ 2) (l : List ℕ) (at : ℕ) (es : List Cell) where
   stays-empty : (t : List ℕ) → (wide fm g ≡ false) ⊎ (length t ≡ 0) → groupOk es ≡ true → Grown g es (nothing fm g (record { owes = t; at = at; group = es }))
   stays-empty t why h = record {
-    ok = ok-idle es (emptyCell (fm .size g)) refl (gap-empty es (emptyCell (fm .size g)) refl ∙ and-left (noGap es) (oneMisc es && fourResponses es) h) h;
+    ok = ok-both es (emptyCell (fm .size g) ∷ []) refl ∙ h;
     full = λ not-last some. ⊎-elim (λ w. absurd (not-last (narrow-last w))) (λ z. absurd (none-left (length t) z some)) why;
   }
     where
@@ -96,29 +87,36 @@ module _ (fm : Format) (n : Grant) (g : ℕ) (narrow-last : wide fm g ≡ false 
       let rules : groupOk es′ ≡ true = and-right (placed fm g m && (not (isMisc m activation) || noCounts n)) (groupOk es′) t in
       record { ok = rules; full = λ _ _. gap-all es (startCell (fm .size g) m) refl (and-left (noGap es′) (oneMisc es′ && fourResponses es′) rules) }
 
-  pub group-step : (m t : List ℕ) (ms : List (List ℕ)) → Link m t → Left l at ms → Packed es t → Grown g es (give fm n l g (record { owes = t; at = at; group = es }))
-  group-step m t ms idle left h = next-step ms left
+  group-step : (t : List ℕ) → Packed es t → Grown g es (give fm n l g (record { owes = t; at = at; group = es }))
+  group-step t h = ⊎-elim idle busy (cases (eqb (length t) 0))
     where
-      Goal : Type 0
-      Goal = Grown g es (give fm n l g (record { owes = []; at = at; group = es }))
+      w : Pen
+      w = record { owes = t; at = at; group = es }
 
-      empty : Grown g es (nothing fm g (record { owes = []; at = at; group = es }))
-      empty = stays-empty [] (inr refl) (h .ok)
-
-      next-step : (ms : List (List ℕ)) → Left l at ms → Goal
-      next-step [] left = subst (Grown g es) (sym (give-none fm n l g at es left)) empty
-      next-step (m ∷ ms) left =
-          ⊎-elim (λ y. subst (Grown g es) (sym (give-next fm n l g at es m ms left y)) (starts-legal m _ y))
-          (λ y. subst (Grown g es) (sym (give-not fm n l g at es m ms left y)) empty) (cases (legal fm n g es m))
-  group-step m t ms (busy a b d e p) left h =
-      ⊎-elim (λ w. subst (Grown g es) (sym (give-on fm n l g at es t p w)) (goes-on (h .full p)))
-      (λ w. subst (Grown g es) (sym (give-over fm n l g at es t p w)) (stays-empty t (inl w) (h .ok))) (cases (wide fm g))
-    where
-      goes-on : allPopulated es ≡ true → Grown g es (record { cell = onCell 20 t; owes = drop 20 t; at = at })
+      goes-on : allPopulated es ≡ true → Grown g es (record { cell = onCell (fm .size g) t; owes = drop (fm .size g) t; at = at })
       goes-on f = record {
-        ok = ok-idle es (onCell 20 t) refl (gap-full es (onCell 20 t) f) (h .ok);
-        full = λ _ _. full-more es (onCell 20 t) f refl;
+        ok = ok-idle es (onCell (fm .size g) t) refl (gap-full es (onCell (fm .size g) t) f) (h .ok);
+        full = λ _ _. full-more es (onCell (fm .size g) t) f refl;
       }
+
+      busy : eqb (length t) 0 ≡ false → Grown g es (give fm n l g w)
+      busy e =
+          let some = eqb-false (length t) 0 e in
+          ⊎-elim (λ (x : wide fm g ≡ true). rw (e, x) (goes-on (h .full (omega arith)))) (λ (x : wide fm g ≡ false). rw (e, x) (stays-empty t (inl x) (h .ok)))
+          (cases (wide fm g))
+
+      idle : eqb (length t) 0 ≡ true → Grown g es (give fm n l g w)
+      idle e = rw e (next (firstOf (drop at l)))
+        where
+          empty : Grown g es (nothing fm g w)
+          empty = stays-empty t (inr (eqb-true (length t) 0 e)) (h .ok)
+
+          next : (x : First) → Grown g es (startNext fm n l g w x)
+          next Empty = empty
+          next Bad = empty
+          next (Whole s f) =
+              let m = messageOf (drop at l) s f in
+              ⊎-elim (λ (y : legal fm n g es m ≡ true). rw y (starts-legal m (at + f) y)) (λ (y : legal fm n g es m ≡ false). rw y empty) (cases (legal fm n g es m))
 
 pub packed-none : (t : List ℕ) → Packed [] t
 packed-none t = record { ok = refl; full = λ _. refl }
@@ -135,31 +133,15 @@ abbrev pub thrice : ℕ → ℕ
 thrice zero = zero
 thrice (suc k) = suc (suc (suc (thrice k)))
 
--- a pen whose owed bytes a reader follows, before a list of records, in a group that keeps its rules
-pub record Good (l : List ℕ) (w : Pen) : Type 0 where
-  pub read : List ℕ
-  pub link : Link read (w .owes)
-  pub rest : List (List ℕ)
-  pub left : Left l (w .at) rest
-  pub packed : Packed (w .group) (w .owes)
-
 module _ (fm : Format) (n : Grant) (l : List ℕ) (narrow-last : (g : ℕ) → g < 12 → wide fm g ≡ false → g % 3 ≡ 2) where
   abbrev step : ℕ → Pen → Pen
   step g w = penAfter g w (give fm n l g w)
 
-  grown : (g : ℕ) (w : Pen) → g < 12 → Good l w → Grown g (w .group) (give fm n l g w)
-  grown g w b h = group-step fm n g (narrow-last g b) l (w .at) (w .group) (h .read) (w .owes) (h .rest) (h .link) (h .left) (h .packed)
+  grown : (g : ℕ) (w : Pen) → g < 12 → Packed (w .group) (w .owes) → Grown g (w .group) (give fm n l g w)
+  grown g w b h = group-step fm n g (narrow-last g b) l (w .at) (w .group) (w .owes) h
 
-  pub good-next : (g : ℕ) (w : Pen) → g < 12 → Good l w → Good l (step g w)
-  good-next g w b h =
-      let s = step-followed fm n l g (w .at) (w .group) (h .read) (w .owes) (h .rest) (h .link) (h .left) in
-      record {
-        read = after fm g (give fm n l g w .cell) (h .read);
-        link = s .follows .link;
-        rest = s .rest;
-        left = s .left;
-        packed = packed-next g (w .group) (give fm n l g w) (grown g w b h);
-      }
+  packed-step : (g : ℕ) (w : Pen) → g < 12 → Packed (w .group) (w .owes) → Packed (step g w .group) (step g w .owes)
+  packed-step g w b h = packed-next g (w .group) (give fm n l g w) (grown g w b h)
 
   group-after : (g : ℕ) (w : Pen) → (g % 3 ≡ 2 → ⊥) → step g w .group ≡ w .group ++ (give fm n l g w .cell ∷ [])
   group-after g w d = rw (ne-eqb (g % 3) 2 d)
@@ -168,27 +150,24 @@ module _ (fm : Format) (n : Grant) (l : List ℕ) (narrow-last : (g : ℕ) → g
   group-ends g w e = rw e
 
   -- three granules from a group's first
-  three : (g : ℕ) (w : Pen) → g + 3 ≤ 12 → g % 3 ≡ 0 → w .group ≡ [] → Good l w
+  three : (g : ℕ) (w : Pen) → g + 3 ≤ 12 → g % 3 ≡ 0 → w .group ≡ [] → Packed (w .group) (w .owes)
       → groupOk (give fm n l g w .cell ∷ give fm n l (g + 1) (step g w) .cell ∷ give fm n l (g + 1 + 1) (step (g + 1) (step g w)) .cell ∷ []) ≡ true
   three g w b e z h =
       let w₁ = step g w in
       let w₂ = step (g + 1) w₁ in
-      let h₁ = good-next g w (omega arith) h in
-      let h₂ = good-next (g + 1) w₁ (omega arith) h₁ in
+      let h₁ = packed-step g w (omega arith) h in
+      let h₂ = packed-step (g + 1) w₁ (omega arith) h₁ in
       let g₁ : w₁ .group ≡ give fm n l g w .cell ∷ [] = group-after g w (λ k. omega arith) ∙ rw z in
       let g₂ : w₂ .group ≡ give fm n l g w .cell ∷ give fm n l (g + 1) w₁ .cell ∷ [] = group-after (g + 1) w₁ (λ k. omega arith) ∙ rw g₁ in
       subst (λ (es : List Cell). groupOk (es ++ (give fm n l (g + 1 + 1) w₂ .cell ∷ [])) ≡ true) g₂ (grown (g + 1 + 1) w₂ (omega arith) h₂ .ok)
 
-  pub groups-pass : (k q g : ℕ) (w : Pen) → g + thrice k ≤ 12 → g % 3 ≡ 0 → w .group ≡ [] → Good l w → Pass (groupChecks k q (plan fm n l (thrice k) g w))
+  pub groups-pass : (k q g : ℕ) (w : Pen) → g + thrice k ≤ 12 → g % 3 ≡ 0 → w .group ≡ [] → Packed (w .group) (w .owes) → Pass (groupChecks k q (plan fm n l (thrice k) g w))
   unfolding plan groupChecks
   groups-pass zero q g w b e z h = tt
   groups-pass (suc k) q g w b e z h =
       let w₂ = step (g + 1) (step g w) in
-      let h₃ = good-next (g + 1 + 1) w₂ (omega arith) (good-next (g + 1) (step g w) (omega arith) (good-next g w (omega arith) h)) in
-      checked (give fm n l g w .cell ∷ give fm n l (g + 1) (step g w) .cell ∷ give fm n l (g + 1 + 1) w₂ .cell ∷ []) (three g w (omega arith) e z h)
-      (groups-pass k (q + 1) (g + 1 + 1 + 1) (step (g + 1 + 1) w₂) (omega arith) (omega arith) (group-ends (g + 1 + 1) w₂ (omega arith)) h₃)
-    where
-      checked : {A : Type 0} (es : List Cell) → groupOk es ≡ true → A → (noGap es ≡ true) × ((oneMisc es ≡ true) × ((fourResponses es ≡ true) × A))
-      checked es o r =
-          let s = and-right (noGap es) (oneMisc es && fourResponses es) o in
-          (and-left (noGap es) (oneMisc es && fourResponses es) o, (and-left (oneMisc es) (fourResponses es) s, (and-right (oneMisc es) (fourResponses es) s, r)))
+      let h₃ = packed-step (g + 1 + 1) w₂ (omega arith) (packed-step (g + 1) (step g w) (omega arith) (packed-step g w (omega arith) h)) in
+      group-checks k q (plan fm n l (thrice (suc k)) g w) .0 (
+        three g w (omega arith) e z h,
+        groups-pass k (q + 1) (g + 1 + 1 + 1) (step (g + 1 + 1) w₂) (omega arith) (omega arith) (group-ends (g + 1 + 1) w₂ (omega arith)) h₃,
+      )

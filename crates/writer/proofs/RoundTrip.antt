@@ -42,7 +42,7 @@ use Rattle.writer.specs.declared.writer.Writer.{Writer}
 use Rattle.writer.specs.declared.writer.Answer.the-variants as answer
 use Rattle.writer.proofs.Simulation.{Link, idle, busy, begun, message-most, size-m, owed-m, start-head, legal-placed, Left, is-next, give-next, give-not, give-none, give-on, give-over, step-followed}
 use Rattle.writer.proofs.Run.{Written, Ran, plan-length, plan-followed, cells-shown}
-use Rattle.writer.proofs.Groups.{Good, packed-none, groups-pass}
+use Rattle.writer.proofs.Groups.{packed-none, groups-pass}
 use Rattle.writer.proofs.Container as made
 
 -- ---- the rules of the plan
@@ -157,8 +157,7 @@ module _ (f : ℕ) (n : Grant) (low : n .rp < 8) (allowed : planeAllowed n ≡ t
   box-passes : Pass (containerChecks fm m box laid)
   unfolding containerChecks filled
   box-passes =
-      let good : Good l (penOf t) = record { read = m; link = link; rest = ms; left = left; packed = packed-none t } in
-      let groups = groups-pass fm n l (lawful-of f .narrow-last) 4 0 0 (penOf t) (omega arith) refl refl good in
+      let groups = groups-pass fm n l (lawful-of f .narrow-last) 4 0 0 (penOf t) (omega arith) refl refl (packed-none t) in
       let behind = pass-append (groupChecks 4 0 laid) (lastChecks fm m box laid) groups (is-quiet, (ends-here f m t link, tt)) in
       let granules = written-passes fm laid 0 m (ran .written) in
       let allowed-there = subst (λ (k : Grant). planeAllowed k ≡ true) (sym box-grant) allowed in

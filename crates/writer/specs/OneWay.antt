@@ -1,15 +1,20 @@
 -- The writer's one way (document 01), record by record: what is owed first, from G0; then each record at the lowest legal granule above
 -- the last granule that the message before it occupies.
-use Prim.Native.Nat.{ℕ, _+_, _*_, _/_, _≤_, _<_}
+use Prim.Native.Nat.{ℕ, zero, suc, _+_, _-_, _*_, _/_, _≤_, _<_}
 use mathlib.Core.Path.{_≡_}
 use mathlib.Core.Bool.{Bool, true, false}
-use mathlib.Core.List.{List}
+use mathlib.Core.List.{List, [], _∷_, _++_}
 use lib.ListN.{length, getD, take, drop}
+use Rattle.cause.specs.Checks.{Pass}
 use Rattle.container.specs.Layout.{Format, wide}
+use Rattle.container.specs.Grants.{noCounts}
 use Rattle.container.specs.declared.grant.Grant.{Grant}
+use Rattle.message.specs.Heads.{isMisc, activation}
+use Rattle.message.specs.Places.{placed}
 use Rattle.record.specs.Records.{firstOf, messageOf}
 use Rattle.record.specs.declared.list.First.the-variants.{Whole}
 use Rattle.reader.specs.Cells.{Cell}
+use Rattle.reader.specs.Checking.{groupChecks}
 use Rattle.writer.specs.Plan.{emptyCell, startCell, onCell, legal}
 
 -- cell j of the cells of a container
@@ -23,6 +28,28 @@ groupAt es j = drop (3 * (j / 3)) (take j es)
 -- granule j is legal for a message behind the cells below it
 abbrev pub mayStart : Format → Grant → List Cell → ℕ → List ℕ → Bool
 mayStart fm n es j m = legal fm n j (groupAt es j) m
+
+-- k empty cells, of granules g, g + 1, ..
+abbrev pub emptiesFrom : Format → ℕ → ℕ → List Cell
+emptiesFrom fm zero g = []
+emptiesFrom fm (suc k) g = emptyCell (fm .size g) ∷ emptiesFrom fm k (g + 1)
+
+-- the container so far: the cells below granule j, the others empty
+abbrev pub soFar : Format → List Cell → ℕ → List Cell
+soFar fm es j = take j es ++ emptiesFrom fm (12 - j) j
+
+-- the container so far, with a message that starts at granule j
+abbrev pub withStart : Format → List Cell → ℕ → List ℕ → List Cell
+withStart fm es j m = take j es ++ (startCell (fm .size j) m ∷ emptiesFrom fm (11 - j) (j + 1))
+
+-- the container so far, with a message that starts at granule j, keeps every placement rule
+pub record KeepsWith (fm : Format) (n : Grant) (es : List Cell) (j : ℕ) (m : List ℕ) : Type 0 where
+  -- the message may start at this granule
+  pub place : placed fm j m ≡ true
+  -- every group of the container keeps its rules
+  pub groups : Pass (groupChecks 4 0 (withStart fm es j m))
+  -- an Activation stands beside no header count
+  pub quiet : isMisc m activation ≡ true → noCounts n ≡ true
 
 -- no granule from g on and below h is legal for a message
 abbrev pub NoneLegal : Format → Grant → List Cell → ℕ → ℕ → List ℕ → Type 0
