@@ -16,7 +16,7 @@ use Rattle.reader.specs.Reading.{carried, records}
 use Rattle.reader.specs.declared.reader.Reader.{Reader}
 use Rattle.reader.proofs.ProgressLaws.{endings-of}
 use Rattle.reader.proofs.ReadLaws.{read-exactly}
-use Rattle.writer.specs.Plan.{plan, penOf}
+use Rattle.writer.specs.Plan.{plan, cursorOf}
 use Rattle.writer.specs.Laying.{filled, owesAfter, usedOf}
 use Rattle.writer.specs.OneWay.{Way}
 use Rattle.writer.specs.Filling.{tailOf, writerWith, fillFault, answerOf, filling, fillBytes}
@@ -44,9 +44,9 @@ one-way w l n c u e =
     let fm = formatOf (w .format) in
     let t = tailOf w in
     let r = filled-sound (fillFault w l n (length c)) (usedOf fm n t l) u e in
-    let k = one-way-exactly fm n l t (plan fm n l 12 0 (penOf t)) u (owesAfter fm n t l) .1 (refl, r .1, refl) in
+    let k = one-way-exactly fm n l t (plan fm n l 12 0 (cursorOf t)) u (owesAfter fm n t l) .1 (refl, r .1, refl) in
     record {
-      cells = plan fm n l 12 0 (penOf t);
+      cells = plan fm n l 12 0 (cursorOf t);
       owes = owesAfter fm n t l;
       twelve = k .0;
       legal = λ j m b. plan-legal (w .format) n l t j m b;

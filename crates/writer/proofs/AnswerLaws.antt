@@ -16,8 +16,8 @@ use Rattle.container.specs.Layout.{Format, formatOf}
 use Rattle.container.specs.declared.grant.Grant.{Grant}
 use Rattle.writer.specs.Laying.{headerBytes, setAll, filled, owesAfter, usedOf}
 use Rattle.writer.specs.Filling.{tailOf, writerWith, fillFault, answerOf, filling, fillBytes}
-use Rattle.writer.specs.Holding.{Sane, owedOf, penAt, laidTo}
-use Rattle.writer.specs.declared.pen.Pen.{Pen}
+use Rattle.writer.specs.Holding.{Sane, owedOf, cursorAt, laidTo}
+use Rattle.writer.specs.declared.cursor.Cursor.{Cursor}
 use Rattle.writer.specs.declared.writer.Writer.{Writer}
 use Rattle.writer.specs.declared.writer.Answer.{Answer}
 use Rattle.writer.specs.declared.writer.Answer.the-variants as answer
@@ -28,7 +28,7 @@ use Rattle.writer.proofs.HoldLaws.{owed-length, held-filled, held-owes,
 
 -- ---- what is owed, by where it lies
 
-module _ (t l : List ℕ) (p : Pen) where
+module _ (t l : List ℕ) (p : Cursor) where
   pub tail-none : p .left ≡ 0 → replicate 100 0 ≡ pad 100 (owedOf t l p)
   tail-none e = rw e
 
@@ -87,7 +87,7 @@ module _ (w : Writer) (l : List ℕ) (n : Grant) (c : List ℕ) (long : length (
   pub plane : n .rp < 8
   plane = can .plane
 
-  module _ (p : Pen) (ep : p ≡ penAt fm n t l 12) where
+  module _ (p : Cursor) (ep : p ≡ cursorAt fm n t l 12) where
     sane : Sane t l 12 p
     sane = rw ep (sane-at (w .format) n t l (fill-asks .1 .0) (fill-asks .1 .1) (can .short) 12 (omega arith))
 
@@ -113,7 +113,7 @@ module _ (w : Writer) (l : List ℕ) (n : Grant) (c : List ℕ) (long : length (
         let at : a ≡ pad 100 (owesAfter fm n (tailOf w) l) = ea ∙ ap (pad 100) owes in
         let len : p .left ≡ length (owesAfter fm n (tailOf w) l) = sym (owed-length t l 12 p sane) ∙ ap length owes in
         let used : p .at ≡ usedOf fm n (tailOf w) l =
-        ap (λ (x : Pen). x .at) ep ∙ sym (held-used (w .format) n t l (fill-asks .1 .0) (fill-asks .1 .1) (can .short)) ∙ ap (λ (x : List ℕ). usedOf fm n x l) (tail-part w) in
+        ap (λ (x : Cursor). x .at) ep ∙ sym (held-used (w .format) n t l (fill-asks .1 .0) (fill-asks .1 .1) (can .short)) ∙ ap (λ (x : List ℕ). usedOf fm n x l) (tail-part w) in
         (λ i. record { writer = record { format = w .format; tail = at i; len = len i }; answer = answer.Filled (used i) })
         ∙ (λ i. record { writer = whenSound (sym e i) (writerWith (w .format) (owesAfter fm n (tailOf w) l)) w; answer = answerOf (sym e i) (usedOf fm n (tailOf w) l) })
 
@@ -121,6 +121,6 @@ module _ (w : Writer) (l : List ℕ) (n : Grant) (c : List ℕ) (long : length (
     unfolding fillBytes
     bytes-done d x ex ed =
         ed ∙ ap (setAll (fm .place) 0 (headerBytes n (p .starts))) ex
-        ∙ ap (λ (y : Pen). setAll (fm .place) 0 (headerBytes n (y .starts)) (laidTo fm n t l 12)) ep
+        ∙ ap (λ (y : Cursor). setAll (fm .place) 0 (headerBytes n (y .starts)) (laidTo fm n t l 12)) ep
         ∙ sym (held-filled (w .format) n t l (fill-asks .1 .0) (fill-asks .1 .1) (can .short))
         ∙ ap (λ (y : List ℕ). filled fm n y l) (tail-part w) ∙ rw e

@@ -28,7 +28,7 @@ use Rattle.reader.specs.Cells.{Cell, after, ended, carryAfter, endings}
 use Rattle.reader.specs.Checking.{oneMisc, fourResponses}
 use Rattle.reader.specs.Reading.{readerWith}
 use Rattle.reader.specs.declared.reader.Reader.{Reader}
-use Rattle.writer.specs.Plan.{startCell, onCell, legal, Pen, Given, give, penAfter, plan, penLast, penOf}
+use Rattle.writer.specs.Plan.{startCell, onCell, legal, Cursor, Given, give, cursorAfter, plan, cursorLast, cursorOf}
 use Rattle.writer.specs.Laying.{filled, owesAfter, usedOf}
 use Rattle.writer.specs.Filling.{tailOf, writerOk, writerWith, callChecks, fillFault, filling, fillBytes}
 use Rattle.writer.specs.Calls.{Fills, Filling, Reading, FillingList, none, then, zeroGrant, UsedUp}
@@ -45,13 +45,13 @@ wides fm (suc k) g = pick (wide fm g) 1 0 + wides fm k (g + 1)
 
 module _ (fm : Format) (n : Grant) (l : List ℕ) where
   -- a message ends in the first of the cells or in a later one
-  ends-by : (k g : ℕ) (m : List ℕ) (w : Pen) (v : Given) → give fm n l g w ≡ v
-      → (0 < length (ended (v .cell) m)) ⊎ (0 < length (endings fm (g + 1) (plan fm n l k (g + 1) (penAfter g w v)) (after fm g (v .cell) m)))
+  ends-by : (k g : ℕ) (m : List ℕ) (w : Cursor) (v : Given) → give fm n l g w ≡ v
+      → (0 < length (ended (v .cell) m)) ⊎ (0 < length (endings fm (g + 1) (plan fm n l k (g + 1) (cursorAfter g w v)) (after fm g (v .cell) m)))
       → 0 < length (endings fm g (plan fm n l (suc k) g w) m)
   unfolding plan endings
   ends-by k g m w v e p =
-      subst (λ (x : Given). 0 < length (ended (x .cell) m ++ endings fm (g + 1) (plan fm n l k (g + 1) (penAfter g w x)) (after fm g (x .cell) m))) (sym e)
-      (rw (length-append (ended (v .cell) m) (endings fm (g + 1) (plan fm n l k (g + 1) (penAfter g w v)) (after fm g (v .cell) m)))
+      subst (λ (x : Given). 0 < length (ended (x .cell) m ++ endings fm (g + 1) (plan fm n l k (g + 1) (cursorAfter g w x)) (after fm g (x .cell) m))) (sym e)
+      (rw (length-append (ended (v .cell) m) (endings fm (g + 1) (plan fm n l k (g + 1) (cursorAfter g w v)) (after fm g (v .cell) m)))
       (⊎-elim (λ a. omega arith) (λ a. omega arith) p))
 
   -- a message that is owed ends where enough wide granules follow
@@ -63,7 +63,7 @@ module _ (fm : Format) (n : Grant) (l : List ℕ) where
       let later : Later = λ m′ t′ ms′ at′ es′. owed-ends k (g + 1) m′ t′ ms′ at′ es′ in
       ⊎-elim (in-wide later) (in-narrow later) (cases (wide fm g))
     where
-      w : Pen
+      w : Cursor
       w = record { owes = t; at = at; group = es }
 
       Later : Type 0
@@ -129,7 +129,7 @@ module _ (f : ℕ) (l x : List ℕ) (ms : List (List ℕ)) (left : Left l 0 (x �
   twenty : fm .size 0 ≡ 20
   twenty = eqb-true (fm .size 0) 20 (wide-first f)
 
-  first-given : give fm zeroGrant l 0 (penOf []) ≡ v
+  first-given : give fm zeroGrant l 0 (cursorOf []) ≡ v
   first-given = give-next fm zeroGrant l 0 0 [] x ms left (legal-first fm x (wide-first f))
 
   first-steps : Steps fm l 0 [] [] 0 (x ∷ ms) v
@@ -141,7 +141,7 @@ module _ (f : ℕ) (l x : List ℕ) (ms : List (List ℕ)) (left : Left l 0 (x �
       let p = legal-placed fm zeroGrant 0 [] x (legal-first fm x (wide-first f)) in
       rw (take-all (fm .size 0) x fits, short-ended fm 0 x ms (is-next l 0 x ms left) fits p) (omega arith)
 
-  long-ends : 20 < length x → 0 < length (endings fm 1 (plan fm zeroGrant l 11 1 (penAfter 0 (penOf []) v)) (after fm 0 (v .cell) []))
+  long-ends : 20 < length x → 0 < length (endings fm 1 (plan fm zeroGrant l 11 1 (cursorAfter 0 (cursorOf []) v)) (after fm 0 (v .cell) []))
   long-ends a =
       let d : length (drop (fm .size 0) x) ≡ length x - 20 = length-drop (fm .size 0) x ∙ ap (λ (k : ℕ). length x - k) twenty in
       let most = message-most x (is-next l 0 x ms left) in
@@ -149,14 +149,14 @@ module _ (f : ℕ) (l x : List ℕ) (ms : List (List ℕ)) (left : Left l 0 (x �
       let s = first-steps in
       owed-ends fm zeroGrant l 11 1 (after fm 0 (v .cell) []) (drop (fm .size 0) x) (s .rest) (v .at) _ (s .follows .link) (s .left) (rw d (omega arith)) (rw d (omega arith))
 
-  starts-ends : 0 < length (endings fm 0 (plan fm zeroGrant l 12 0 (penOf [])) [])
+  starts-ends : 0 < length (endings fm 0 (plan fm zeroGrant l 12 0 (cursorOf [])) [])
   starts-ends =
-      ends-by fm zeroGrant l 11 0 [] (penOf []) v first-given
+      ends-by fm zeroGrant l 11 0 [] (cursorOf []) v first-given
       (⊎-elim (λ (a : 20 < length x). inr (long-ends a)) (λ (a : length x ≤ 20). inl (short-ends a)) (lt-or-le 20 (length x)))
 
 -- a container finishes a message where there is one
 finishes-one : (f : ℕ) (m t l : List ℕ) (ms : List (List ℕ)) → Link m t → Left l 0 ms → 0 < unfinished m t ms
-    → 0 < length (endings (formatOf f) 0 (plan (formatOf f) zeroGrant l 12 0 (penOf t)) m)
+    → 0 < length (endings (formatOf f) 0 (plan (formatOf f) zeroGrant l 12 0 (cursorOf t)) m)
 finishes-one f m t l [] idle left p = absurd (omega arith)
 finishes-one f m t l (x ∷ ms) idle left p = starts-ends f l x ms left
 finishes-one f m t l ms (busy h a b pm pt) left p =
@@ -197,8 +197,8 @@ module _ (f : ℕ) (n : Grant) (m t l : List ℕ) (ms : List (List ℕ)) (small 
 
 -- behind a container fewer messages are not finished
 fewer : (f : ℕ) (m t l : List ℕ) (ms : List (List ℕ)) (link : Link m t) (left : Left l 0 ms) → 0 < unfinished m t ms
-    → (w : Pen) → (r : Ran (formatOf f) l 0 m t 0 ms (plan (formatOf f) zeroGrant l 12 0 (penOf t)) w)
-    → unfinished (carryAfter (formatOf f) 0 (plan (formatOf f) zeroGrant l 12 0 (penOf t)) m) (w .owes) (r .rest) < unfinished m t ms
+    → (w : Cursor) → (r : Ran (formatOf f) l 0 m t 0 ms (plan (formatOf f) zeroGrant l 12 0 (cursorOf t)) w)
+    → unfinished (carryAfter (formatOf f) 0 (plan (formatOf f) zeroGrant l 12 0 (cursorOf t)) m) (w .owes) (r .rest) < unfinished m t ms
 fewer f m t l ms link left p w r = let e = simp length-append at (ap length (r .out)) in omega (arith, finishes-one f m t l ms link left p)
 
 -- ---- progress
@@ -215,14 +215,14 @@ some-unfinished m t l [] e p =
     (λ (q : 0 < length t). ⊎-elim (λ x. let z = x .0 in absurd (omega arith)) (λ x. let z = x .1 in omega arith) (begun-count m t)) p
 some-unfinished m t l (x ∷ ms) e p = omega arith
 
-progress-with : (f : ℕ) (m t l : List ℕ) (ms : List (List ℕ)) → Link m t → Left l 0 ms → (w : Pen)
-    → Ran (formatOf f) l 0 m t 0 ms (plan (formatOf f) zeroGrant l 12 0 (penOf t)) w
+progress-with : (f : ℕ) (m t l : List ℕ) (ms : List (List ℕ)) → Link m t → Left l 0 ms → (w : Cursor)
+    → Ran (formatOf f) l 0 m t 0 ms (plan (formatOf f) zeroGrant l 12 0 (cursorOf t)) w
     → (0 < length l) ⊎ (0 < length t) → (0 < w .at) ⊎ ((0 < length t) × (length (w .owes) ≡ 0))
 progress-with f m t l ms link left w r some =
     ⊎-elim (λ x. inr (paid (ap length (x .0)))) (λ x. inl x) (r .moved)
   where
     m′ : List ℕ
-    m′ = carryAfter (formatOf f) 0 (plan (formatOf f) zeroGrant l 12 0 (penOf t)) m
+    m′ = carryAfter (formatOf f) 0 (plan (formatOf f) zeroGrant l 12 0 (cursorOf t)) m
 
     paid : length (r .rest) ≡ length ms → (0 < length t) × (length (w .owes) ≡ 0)
     paid e =
@@ -239,7 +239,7 @@ progress f s w l c u w′ k h some =
     let ms = list-left l (h .of-bytes) (a .sound) in
     let r = ran f zeroGrant (a .low) (a .allowed) (k .carry) (k .tail) l (ms .0) (k .link) (ms .1) in
     let t : tailOf w ≡ k .tail = ap tailOf (k .writer) ∙ tail-of f (k .tail) in
-    let t′ : tailOf w′ ≡ penLast (formatOf f) zeroGrant l 12 0 (penOf (k .tail)) .owes = ap tailOf (sym (a .next)) ∙ tail-of f _ in
+    let t′ : tailOf w′ ≡ cursorLast (formatOf f) zeroGrant l 12 0 (cursorOf (k .tail)) .owes = ap tailOf (sym (a .next)) ∙ tail-of f _ in
     rw (t, t′, ← a .used) (progress-with f (k .carry) (k .tail) l (ms .0) (k .link) (ms .1) _ r (rw t at some))
 
 -- ---- all fills of a list
@@ -289,7 +289,7 @@ module _ (f : ℕ) (small : f < 2) (l : List ℕ) (hb : IsBytes l) (short : leng
       let h = call-fills f zeroGrant m t (drop at l) ms small (omega arith) refl link here bytes (rw (length-drop at l) (omega arith)) in
       let r = ran f zeroGrant (omega arith) refl m t (drop at l) ms link here in
       let u = usedOf (formatOf f) zeroGrant t (drop at l) in
-      finishes k (carryAfter (formatOf f) 0 (plan (formatOf f) zeroGrant (drop at l) 12 0 (penOf t)) m) (owesAfter (formatOf f) zeroGrant t (drop at l)) (r .rest) (at + u) p
+      finishes k (carryAfter (formatOf f) 0 (plan (formatOf f) zeroGrant (drop at l) 12 0 (cursorOf t)) m) (owesAfter (formatOf f) zeroGrant t (drop at l)) (r .rest) (at + u) p
       (cs ++ (filled (formatOf f) zeroGrant t (drop at l) ∷ [])) (r .link) (left-there l at u (r .rest) (left .within) (r .left)) (then u done h)
       (omega (arith, fewer f m t (drop at l) ms link here some _ r)) (rw (length-append cs (filled (formatOf f) zeroGrant t (drop at l) ∷ [])) (omega arith)))
       (λ (none : unfinished m t ms ≤ 0). none-left m t ms at p cs left done (omega arith) (omega arith))
@@ -340,9 +340,9 @@ record Going (f : ℕ) (l : List ℕ) (ms cs : List (List ℕ)) (at : ℕ) (w : 
   few : unfinished carry tail rest ≤ length ms - length cs
 
 -- a container leaves one less, or none
-one-less : (f : ℕ) (m t l : List ℕ) (ms : List (List ℕ)) (link : Link m t) (left : Left l 0 ms) (w : Pen)
-    → (r : Ran (formatOf f) l 0 m t 0 ms (plan (formatOf f) zeroGrant l 12 0 (penOf t)) w)
-    → unfinished (carryAfter (formatOf f) 0 (plan (formatOf f) zeroGrant l 12 0 (penOf t)) m) (w .owes) (r .rest) ≤ unfinished m t ms - 1
+one-less : (f : ℕ) (m t l : List ℕ) (ms : List (List ℕ)) (link : Link m t) (left : Left l 0 ms) (w : Cursor)
+    → (r : Ran (formatOf f) l 0 m t 0 ms (plan (formatOf f) zeroGrant l 12 0 (cursorOf t)) w)
+    → unfinished (carryAfter (formatOf f) 0 (plan (formatOf f) zeroGrant l 12 0 (cursorOf t)) m) (w .owes) (r .rest) ≤ unfinished m t ms - 1
 one-less f m t l ms link left w r =
     ⊎-elim (λ (p : 0 < unfinished m t ms). omega (arith, fewer f m t l ms link left p w r))
     (λ (p : unfinished m t ms ≤ 0). let e = simp length-append at (ap length (r .out)) in omega arith) (lt-or-le 0 (unfinished m t ms))
@@ -365,7 +365,7 @@ going f l ms e a (then {cs = cs} {at = at} {w₁ = w₁} {w₂ = w₂} {c = c} u
     let k = is-filled f (g .tail) (drop at l) zeroGrant c u w₂ (rw (g .is-writer) at h) in
     let r = ran f zeroGrant (k .low) (k .allowed) (g .carry) (g .tail) (drop at l) (g .rest) (g .link) here in
     record {
-      carry = carryAfter (formatOf f) 0 (plan (formatOf f) zeroGrant (drop at l) 12 0 (penOf (g .tail))) (g .carry);
+      carry = carryAfter (formatOf f) 0 (plan (formatOf f) zeroGrant (drop at l) 12 0 (cursorOf (g .tail))) (g .carry);
       tail = owesAfter (formatOf f) zeroGrant (g .tail) (drop at l);
       rest = r .rest;
       is-writer = sym (k .next);

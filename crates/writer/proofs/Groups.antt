@@ -21,7 +21,7 @@ use Rattle.record.specs.declared.list.First.{First}
 use Rattle.record.specs.declared.list.First.the-variants.{Empty, Bad, Whole}
 use Rattle.reader.specs.Cells.{Cell}
 use Rattle.reader.specs.Checking.{populated, nonePopulated, noGap, sumOf, oneMisc, fourResponses, groupChecks}
-use Rattle.writer.specs.Plan.{emptyCell, startCell, onCell, groupOk, legal, Pen, Given, nothing, startNext, give, groupAfter, penAfter, plan}
+use Rattle.writer.specs.Plan.{emptyCell, startCell, onCell, groupOk, legal, Cursor, Given, nothing, startNext, give, groupAfter, cursorAfter, plan}
 use Rattle.writer.proofs.GroupLaws.{sum-both, ok-both, group-checks}
 
 -- every cell is populated
@@ -90,7 +90,7 @@ module _ (fm : Format) (n : Grant) (g : ℕ) (narrow-last : wide fm g ≡ false 
   group-step : (t : List ℕ) → Packed es t → Grown g es (give fm n l g (record { owes = t; at = at; group = es }))
   group-step t h = ⊎-elim idle busy (cases (eqb (length t) 0))
     where
-      w : Pen
+      w : Cursor
       w = record { owes = t; at = at; group = es }
 
       goes-on : allPopulated es ≡ true → Grown g es (record { cell = onCell (fm .size g) t; owes = drop (fm .size g) t; at = at })
@@ -134,23 +134,23 @@ thrice zero = zero
 thrice (suc k) = suc (suc (suc (thrice k)))
 
 module _ (fm : Format) (n : Grant) (l : List ℕ) (narrow-last : (g : ℕ) → g < 12 → wide fm g ≡ false → g % 3 ≡ 2) where
-  abbrev step : ℕ → Pen → Pen
-  step g w = penAfter g w (give fm n l g w)
+  abbrev step : ℕ → Cursor → Cursor
+  step g w = cursorAfter g w (give fm n l g w)
 
-  grown : (g : ℕ) (w : Pen) → g < 12 → Packed (w .group) (w .owes) → Grown g (w .group) (give fm n l g w)
+  grown : (g : ℕ) (w : Cursor) → g < 12 → Packed (w .group) (w .owes) → Grown g (w .group) (give fm n l g w)
   grown g w b h = group-step fm n g (narrow-last g b) l (w .at) (w .group) (w .owes) h
 
-  packed-step : (g : ℕ) (w : Pen) → g < 12 → Packed (w .group) (w .owes) → Packed (step g w .group) (step g w .owes)
+  packed-step : (g : ℕ) (w : Cursor) → g < 12 → Packed (w .group) (w .owes) → Packed (step g w .group) (step g w .owes)
   packed-step g w b h = packed-next g (w .group) (give fm n l g w) (grown g w b h)
 
-  group-after : (g : ℕ) (w : Pen) → (g % 3 ≡ 2 → ⊥) → step g w .group ≡ w .group ++ (give fm n l g w .cell ∷ [])
+  group-after : (g : ℕ) (w : Cursor) → (g % 3 ≡ 2 → ⊥) → step g w .group ≡ w .group ++ (give fm n l g w .cell ∷ [])
   group-after g w d = rw (ne-eqb (g % 3) 2 d)
 
-  group-ends : (g : ℕ) (w : Pen) → g % 3 ≡ 2 → step g w .group ≡ []
+  group-ends : (g : ℕ) (w : Cursor) → g % 3 ≡ 2 → step g w .group ≡ []
   group-ends g w e = rw e
 
   -- three granules from a group's first
-  three : (g : ℕ) (w : Pen) → g + 3 ≤ 12 → g % 3 ≡ 0 → w .group ≡ [] → Packed (w .group) (w .owes)
+  three : (g : ℕ) (w : Cursor) → g + 3 ≤ 12 → g % 3 ≡ 0 → w .group ≡ [] → Packed (w .group) (w .owes)
       → groupOk (give fm n l g w .cell ∷ give fm n l (g + 1) (step g w) .cell ∷ give fm n l (g + 1 + 1) (step (g + 1) (step g w)) .cell ∷ []) ≡ true
   three g w b e z h =
       let w₁ = step g w in
@@ -161,7 +161,7 @@ module _ (fm : Format) (n : Grant) (l : List ℕ) (narrow-last : (g : ℕ) → g
       let g₂ : w₂ .group ≡ give fm n l g w .cell ∷ give fm n l (g + 1) w₁ .cell ∷ [] = group-after (g + 1) w₁ (λ k. omega arith) ∙ rw g₁ in
       subst (λ (es : List Cell). groupOk (es ++ (give fm n l (g + 1 + 1) w₂ .cell ∷ [])) ≡ true) g₂ (grown (g + 1 + 1) w₂ (omega arith) h₂ .ok)
 
-  pub groups-pass : (k q g : ℕ) (w : Pen) → g + thrice k ≤ 12 → g % 3 ≡ 0 → w .group ≡ [] → Packed (w .group) (w .owes) → Pass (groupChecks k q (plan fm n l (thrice k) g w))
+  pub groups-pass : (k q g : ℕ) (w : Cursor) → g + thrice k ≤ 12 → g % 3 ≡ 0 → w .group ≡ [] → Packed (w .group) (w .owes) → Pass (groupChecks k q (plan fm n l (thrice k) g w))
   unfolding plan groupChecks
   groups-pass zero q g w b e z h = tt
   groups-pass (suc k) q g w b e z h =

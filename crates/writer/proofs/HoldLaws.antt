@@ -25,12 +25,12 @@ use Rattle.record.specs.declared.list.First.the-variants.{Empty, Bad, Whole}
 use Rattle.reader.specs.Cells.{Cell}
 use Rattle.reader.specs.Checking.{populated, nonePopulated, noGap, starting, sumOf}
 use Rattle.writer.specs.Plan as planned
-use Rattle.writer.specs.Plan.{Given, emptyCell, startCell, onCell, legal, nothing, startNext, give, groupAfter, penAfter, plan, penLast, penOf}
+use Rattle.writer.specs.Plan.{Given, emptyCell, startCell, onCell, legal, nothing, startNext, give, groupAfter, cursorAfter, plan, cursorLast, cursorOf}
 use Rattle.writer.specs.Laying.{startBits, headerBytes, setAll, layCells, containerOf, filled, owesAfter, usedOf}
-use Rattle.writer.specs.Holding.{groupNext, legalBy, owedOf, Sane, penEmpty, penOn, penStart, penFirst, bytesFirst, penNext, bytesNext, penAt, laidTo}
+use Rattle.writer.specs.Holding.{groupNext, legalBy, owedOf, Sane, cursorEmpty, cursorOn, cursorStart, cursorFirst, bytesFirst, cursorNext, bytesNext, cursorAt, laidTo}
 use Rattle.writer.specs.declared.group.Group.{Group}
-use Rattle.writer.specs.declared.pen.Pen.{Pen}
-use Rattle.writer.proofs.PlanLaws.{pen-last-more, plan-more, plan-length, bits-more, lay-more}
+use Rattle.writer.specs.declared.cursor.Cursor.{Cursor}
+use Rattle.writer.proofs.PlanLaws.{cursor-last-more, plan-more, plan-length, bits-more, lay-more}
 use Rattle.writer.proofs.SaneLaws.{sane-at}
 
 -- ---- the present group, by its counts
@@ -93,7 +93,7 @@ drop-take (suc n) (suc k) [] = sym (take-nil (suc k - suc n))
 drop-take (suc n) (suc k) (x ∷ l) = let e : suc k - suc n ≡ k - n = omega arith in rw e (drop-take n k l)
 
 -- what is owed, and how long it is
-pub owed-length : (t l : List ℕ) (g : ℕ) (p : Pen) → Sane t l g p → length (owedOf t l p) ≡ p .left
+pub owed-length : (t l : List ℕ) (g : ℕ) (p : Cursor) → Sane t l g p → length (owedOf t l p) ≡ p .left
 owed-length t l g p h = ⊎-elim none some (cases (eqb (p .left) 0))
   where
     none : eqb (p .left) 0 ≡ true → length (owedOf t l p) ≡ p .left
@@ -104,15 +104,15 @@ owed-length t l g p h = ⊎-elim none some (cases (eqb (p .left) 0))
         let d : p .left ≡ 0 → ⊥ = eqb-false (p .left) 0 e in
         length-part (p .from) (p .left) (pick (p .tail) t l) (h .within (omega arith))
 
--- the code's pen p and the plan's pen w: the same bytes owed, the same place in the list, the same group
-pub record Matches (t l : List ℕ) (p : Pen) (w : planned.Pen) : Type 0 where
+-- the code's cursor p and the plan's cursor w: the same bytes owed, the same place in the list, the same group
+pub record Matches (t l : List ℕ) (p : Cursor) (w : planned.Cursor) : Type 0 where
   pub owes : owedOf t l p ≡ w .owes
   pub at : p .at ≡ w .at
   pub group : p .group ≡ groupOf (w .group)
 
--- granule g takes the bytes b and leaves the pen p′, and the plan gives v there: the same pen, bytes and MsgStart
-pub record Steps (fm : Format) (t l : List ℕ) (g : ℕ) (p : Pen) (w : planned.Pen) (p′ : Pen) (b : List ℕ) (v : Given) : Type 0 where
-  pub next : Matches t l p′ (penAfter g w v)
+-- granule g takes the bytes b and leaves the cursor p′, and the plan gives v there: the same cursor, bytes and MsgStart
+pub record Steps (fm : Format) (t l : List ℕ) (g : ℕ) (p : Cursor) (w : planned.Cursor) (p′ : Cursor) (b : List ℕ) (v : Given) : Type 0 where
+  pub next : Matches t l p′ (cursorAfter g w v)
   pub bytes : pad (fm .size g) b ≡ v .cell .bytes
   pub starts : p′ .starts ≡ p .starts + pick (v .cell .starts) (2 ^ g) 0
 
@@ -122,12 +122,12 @@ pick-same : {A B C : Type 0} (P : A → B → C → Type 0) (c d : Bool) {a a′
 pick-same P true d e here there = rw (← e) (here refl)
 pick-same P false d e here there = rw (← e) (there refl)
 
-module _ (fm : Format) (n : Grant) (t l : List ℕ) (g : ℕ) (wide-enough : 0 < fm .size g) (p : Pen) (h : Sane t l g p) (es : List Cell) (q : p .group ≡ groupOf es) where
-  -- the plan's pen that matches
-  abbrev w : planned.Pen
+module _ (fm : Format) (n : Grant) (t l : List ℕ) (g : ℕ) (wide-enough : 0 < fm .size g) (p : Cursor) (h : Sane t l g p) (es : List Cell) (q : p .group ≡ groupOf es) where
+  -- the plan's cursor that matches
+  abbrev w : planned.Cursor
   w = record { owes = owedOf t l p; at = p .at; group = es }
 
-  step-nothing : Steps fm t l g p w (penEmpty g p) [] (nothing fm g w)
+  step-nothing : Steps fm t l g p w (cursorEmpty g p) [] (nothing fm g w)
   step-nothing =
       let z : fm .size g - 0 ≡ fm .size g = omega arith in
       record {
@@ -137,7 +137,7 @@ module _ (fm : Format) (n : Grant) (t l : List ℕ) (g : ℕ) (wide-enough : 0 <
       }
 
   step-on : wide fm g ≡ true → (p .left ≡ 0 → ⊥)
-      → Steps fm t l g p w (penOn g p) (take 20 (owedOf t l p)) (record { cell = onCell (fm .size g) (owedOf t l p); owes = drop (fm .size g) (owedOf t l p); at = p .at })
+      → Steps fm t l g p w (cursorOn g p) (take 20 (owedOf t l p)) (record { cell = onCell (fm .size g) (owedOf t l p); owes = drop (fm .size g) (owedOf t l p); at = p .at })
   step-on broad some =
       let k : fm .size g ≡ 20 = eqb-true (fm .size g) 20 broad in
       let in-granules = h .granules in
@@ -154,7 +154,7 @@ module _ (fm : Format) (n : Grant) (t l : List ℕ) (g : ℕ) (wide-enough : 0 <
       }
 
   step-start : (s e : ℕ)
-      → Steps fm t l g p w (penStart (fm .size g) g p s e (typeOf (messageOf (drop (p .at) l) s e))) (take (fm .size g) (messageOf (drop (p .at) l) s e)) (record { cell = startCell (fm .size g) (messageOf (drop (p .at) l) s e); owes = drop (fm .size g) (messageOf (drop (p .at) l) s e); at = p .at + e })
+      → Steps fm t l g p w (cursorStart (fm .size g) g p s e (typeOf (messageOf (drop (p .at) l) s e))) (take (fm .size g) (messageOf (drop (p .at) l) s e)) (record { cell = startCell (fm .size g) (messageOf (drop (p .at) l) s e); owes = drop (fm .size g) (messageOf (drop (p .at) l) s e); at = p .at + e })
   step-start s e =
       let m = messageOf (drop (p .at) l) s e in
       let a : (p .at + s) + fm .size g ≡ p .at + (s + fm .size g) = omega arith in
@@ -171,7 +171,7 @@ module _ (fm : Format) (n : Grant) (t l : List ℕ) (g : ℕ) (wide-enough : 0 <
         starts = refl;
       }
 
-  step-first : (r : First) → Steps fm t l g p w (penFirst fm n l g p r) (bytesFirst fm n l g p r) (startNext fm n l g w r)
+  step-first : (r : First) → Steps fm t l g p w (cursorFirst fm n l g p r) (bytesFirst fm n l g p r) (startNext fm n l g w r)
   step-first Empty = step-nothing
   step-first Bad = step-nothing
   step-first (Whole s e) =
@@ -181,58 +181,58 @@ module _ (fm : Format) (n : Grant) (t l : List ℕ) (g : ℕ) (wide-enough : 0 <
       (λ _. step-start s e)
       (λ _. step-nothing)
 
-  step-given : Steps fm t l g p w (penNext fm n t l g p) (bytesNext fm n t l g p) (give fm n l g w)
-  unfolding penNext bytesNext
+  step-given : Steps fm t l g p w (cursorNext fm n t l g p) (bytesNext fm n t l g p) (give fm n l g w)
+  unfolding cursorNext bytesNext
   step-given =
       pick-same (Steps fm t l g p w) (eqb (p .left) 0) (eqb (length (owedOf t l p)) 0) (ap (λ (k : ℕ). eqb k 0) (sym (owed-length t l g p h)))
       (λ _. step-first (firstOf (drop (p .at) l)))
       (λ some. pick-same (Steps fm t l g p w) (wide fm g) (wide fm g) refl (λ broad. step-on broad (eqb-false (p .left) 0 some)) (λ _. step-nothing))
 
--- a pen by what it owes and where it is in the list
-pen-same : (w : planned.Pen) (o : List ℕ) (a : ℕ) → o ≡ w .owes → a ≡ w .at → _≡_ {A = planned.Pen} (record { owes = o; at = a; group = w .group }) w
-pen-same w o a e f = λ i. record { owes = e i; at = f i; group = w .group }
+-- a cursor by what it owes and where it is in the list
+cursor-same : (w : planned.Cursor) (o : List ℕ) (a : ℕ) → o ≡ w .owes → a ≡ w .at → _≡_ {A = planned.Cursor} (record { owes = o; at = a; group = w .group }) w
+cursor-same w o a e f = λ i. record { owes = e i; at = f i; group = w .group }
 
-step-matched : (fm : Format) (n : Grant) (t l : List ℕ) (g : ℕ) (p : Pen) (w : planned.Pen) → 0 < fm .size g → Sane t l g p → Matches t l p w
-    → Steps fm t l g p w (penNext fm n t l g p) (bytesNext fm n t l g p) (give fm n l g w)
+step-matched : (fm : Format) (n : Grant) (t l : List ℕ) (g : ℕ) (p : Cursor) (w : planned.Cursor) → 0 < fm .size g → Sane t l g p → Matches t l p w
+    → Steps fm t l g p w (cursorNext fm n t l g p) (bytesNext fm n t l g p) (give fm n l g w)
 step-matched fm n t l g p w k h m =
-    subst (λ (v : planned.Pen). Steps fm t l g p v (penNext fm n t l g p) (bytesNext fm n t l g p) (give fm n l g v))
-    (pen-same w (owedOf t l p) (p .at) (m .owes) (m .at))
+    subst (λ (v : planned.Cursor). Steps fm t l g p v (cursorNext fm n t l g p) (bytesNext fm n t l g p) (give fm n l g v))
+    (cursor-same w (owedOf t l p) (p .at) (m .owes) (m .at))
     (step-given fm n t l g k p h (w .group) (m .group))
 
 -- ---- all granules
 
--- when granule g is reached: the pen that the code keeps is the plan's, and MsgStart and the container are those of the plan so far
+-- when granule g is reached: the cursor that the code keeps is the plan's, and MsgStart and the container are those of the plan so far
 pub record Held (f : ℕ) (n : Grant) (t l : List ℕ) (g : ℕ) : Type 0 where
-  pub owes : owedOf t l (penAt (formatOf f) n t l g) ≡ penLast (formatOf f) n l g 0 (penOf t) .owes
-  pub left : length (penLast (formatOf f) n l g 0 (penOf t) .owes) ≡ penAt (formatOf f) n t l g .left
-  pub at : penAt (formatOf f) n t l g .at ≡ penLast (formatOf f) n l g 0 (penOf t) .at
-  pub group : penAt (formatOf f) n t l g .group ≡ groupOf (penLast (formatOf f) n l g 0 (penOf t) .group)
-  pub starts : penAt (formatOf f) n t l g .starts ≡ startBits (plan (formatOf f) n l g 0 (penOf t))
-  pub laid : laidTo (formatOf f) n t l g ≡ layCells 0 (plan (formatOf f) n l g 0 (penOf t)) (replicate 256 0)
+  pub owes : owedOf t l (cursorAt (formatOf f) n t l g) ≡ cursorLast (formatOf f) n l g 0 (cursorOf t) .owes
+  pub left : length (cursorLast (formatOf f) n l g 0 (cursorOf t) .owes) ≡ cursorAt (formatOf f) n t l g .left
+  pub at : cursorAt (formatOf f) n t l g .at ≡ cursorLast (formatOf f) n l g 0 (cursorOf t) .at
+  pub group : cursorAt (formatOf f) n t l g .group ≡ groupOf (cursorLast (formatOf f) n l g 0 (cursorOf t) .group)
+  pub starts : cursorAt (formatOf f) n t l g .starts ≡ startBits (plan (formatOf f) n l g 0 (cursorOf t))
+  pub laid : laidTo (formatOf f) n t l g ≡ layCells 0 (plan (formatOf f) n l g 0 (cursorOf t)) (replicate 256 0)
 
 -- one granule more
-held-next : (f : ℕ) (n : Grant) (t l : List ℕ) (g : ℕ) → g < 12 → Sane t l g (penAt (formatOf f) n t l g) → Sane t l (suc g) (penAt (formatOf f) n t l (suc g)) → Held f n t l g → Held f n t l (suc g)
-unfolding penAt laidTo
+held-next : (f : ℕ) (n : Grant) (t l : List ℕ) (g : ℕ) → g < 12 → Sane t l g (cursorAt (formatOf f) n t l g) → Sane t l (suc g) (cursorAt (formatOf f) n t l (suc g)) → Held f n t l g → Held f n t l (suc g)
+unfolding cursorAt laidTo
 held-next f n t l g b h h′ d =
     let fm = formatOf f in
-    let w = penLast fm n l g 0 (penOf t) in
+    let w = cursorLast fm n l g 0 (cursorOf t) in
     let least = lawful-of f .least g b in
-    let s = step-matched fm n t l g (penAt fm n t l g) w (omega arith) h (record { owes = d .owes; at = d .at; group = d .group }) in
-    let pe : penAfter g w (give fm n l g w) ≡ penLast fm n l (suc g) 0 (penOf t) = sym (rw zero-add at (pen-last-more fm n l g 0 (penOf t))) in
-    let next : Matches t l (penAt fm n t l (suc g)) (penLast fm n l (suc g) 0 (penOf t)) = subst (Matches t l (penAt fm n t l (suc g))) pe (s .next) in
-    let ce : plan fm n l (suc g) 0 (penOf t) ≡ plan fm n l g 0 (penOf t) ++ (give fm n l g w .cell ∷ []) = rw zero-add at (plan-more fm n l g 0 (penOf t)) in
-    let k : length (plan fm n l g 0 (penOf t)) ≡ g = plan-length fm n l g 0 (penOf t) in
+    let s = step-matched fm n t l g (cursorAt fm n t l g) w (omega arith) h (record { owes = d .owes; at = d .at; group = d .group }) in
+    let pe : cursorAfter g w (give fm n l g w) ≡ cursorLast fm n l (suc g) 0 (cursorOf t) = sym (rw zero-add at (cursor-last-more fm n l g 0 (cursorOf t))) in
+    let next : Matches t l (cursorAt fm n t l (suc g)) (cursorLast fm n l (suc g) 0 (cursorOf t)) = subst (Matches t l (cursorAt fm n t l (suc g))) pe (s .next) in
+    let ce : plan fm n l (suc g) 0 (cursorOf t) ≡ plan fm n l g 0 (cursorOf t) ++ (give fm n l g w .cell ∷ []) = rw zero-add at (plan-more fm n l g 0 (cursorOf t)) in
+    let k : length (plan fm n l g 0 (cursorOf t)) ≡ g = plan-length fm n l g 0 (cursorOf t) in
     record {
       owes = next .owes;
-      left = ap length (sym (next .owes)) ∙ owed-length t l (suc g) (penAt fm n t l (suc g)) h′;
+      left = ap length (sym (next .owes)) ∙ owed-length t l (suc g) (cursorAt fm n t l (suc g)) h′;
       at = next .at;
       group = next .group;
-      starts = rw (ce, bits-more (plan fm n l g 0 (penOf t)) (give fm n l g w .cell), k, ← (d .starts)) (s .starts);
-      laid = rw (ce, lay-more 0 (plan fm n l g 0 (penOf t)) (give fm n l g w .cell) (replicate 256 0), k, zero-add g, ← (d .laid), ← (s .bytes));
+      starts = rw (ce, bits-more (plan fm n l g 0 (cursorOf t)) (give fm n l g w .cell), k, ← (d .starts)) (s .starts);
+      laid = rw (ce, lay-more 0 (plan fm n l g 0 (cursorOf t)) (give fm n l g w .cell) (replicate 256 0), k, zero-add g, ← (d .laid), ← (s .bytes));
     }
 
 held-start : (f : ℕ) (n : Grant) (t l : List ℕ) → Held f n t l 0
-unfolding penAt laidTo plan penLast layCells
+unfolding cursorAt laidTo plan cursorLast layCells
 held-start f n t l = record { owes = take-length t; left = refl; at = refl; group = refl; starts = refl; laid = refl }
 
 module _ (f : ℕ) (n : Grant) (t l : List ℕ) (short : length t ≤ 100) (whole : length t % 20 ≡ 0) (fits : length l ≤ 4096) where
@@ -242,14 +242,14 @@ module _ (f : ℕ) (n : Grant) (t l : List ℕ) (short : length t ≤ 100) (whol
       held-next f n t l g b (sane-at f n t l short whole fits g (omega arith)) (sane-at f n t l short whole fits (suc g) b) (held g (omega arith))
 
   -- the container, what is owed, and the bytes of the list used, behind all granules
-  pub held-filled : filled (formatOf f) n t l ≡ setAll (formatOf f .place) 0 (headerBytes n (penAt (formatOf f) n t l 12 .starts)) (laidTo (formatOf f) n t l 12)
+  pub held-filled : filled (formatOf f) n t l ≡ setAll (formatOf f .place) 0 (headerBytes n (cursorAt (formatOf f) n t l 12 .starts)) (laidTo (formatOf f) n t l 12)
   unfolding filled containerOf
   held-filled = let h = held 12 (omega arith) in rw (h .starts, h .laid)
 
-  pub held-owes : owesAfter (formatOf f) n t l ≡ owedOf t l (penAt (formatOf f) n t l 12)
+  pub held-owes : owesAfter (formatOf f) n t l ≡ owedOf t l (cursorAt (formatOf f) n t l 12)
   unfolding owesAfter
   held-owes = sym (held 12 (omega arith) .owes)
 
-  pub held-used : usedOf (formatOf f) n t l ≡ penAt (formatOf f) n t l 12 .at
+  pub held-used : usedOf (formatOf f) n t l ≡ cursorAt (formatOf f) n t l 12 .at
   unfolding usedOf
   held-used = sym (held 12 (omega arith) .at)

@@ -17,7 +17,7 @@ use Rattle.message.specs.Heads.{isMisc, activation}
 use Rattle.message.specs.Places.{placed}
 use Rattle.reader.specs.Cells.{Cell}
 use Rattle.reader.specs.Checking.{nonePopulated, groupChecks}
-use Rattle.writer.specs.Plan.{startCell, groupOk, plan, penOf}
+use Rattle.writer.specs.Plan.{startCell, groupOk, plan, cursorOf}
 use Rattle.writer.specs.OneWay.{groupAt, mayStart, emptiesFrom, soFar, withStart, KeepsWith}
 use Rattle.writer.proofs.Run.{plan-length}
 use Rattle.writer.proofs.GroupLaws.{front-pass, more-exactly}
@@ -72,10 +72,10 @@ module _ (f : ℕ) (n : Grant) (l t : List ℕ) (j : ℕ) where
   fm = formatOf f
 
   abbrev laid : List Cell
-  laid = plan fm n l 12 0 (penOf t)
+  laid = plan fm n l 12 0 (cursorOf t)
 
   pub plan-so-far : Pass (groupChecks 4 0 (soFar fm laid j))
-  plan-so-far = so-far-passes fm laid j (groups-pass fm n l (lawful-of f .narrow-last) 4 0 0 (penOf t) (omega arith) refl refl (packed-none t))
+  plan-so-far = so-far-passes fm laid j (groups-pass fm n l (lawful-of f .narrow-last) 4 0 0 (cursorOf t) (omega arith) refl refl (packed-none t))
 
   pub plan-legal : (m : List ℕ) → j < 12 → (mayStart fm n laid j m ≡ true) ↔ KeepsWith fm n laid j m
-  plan-legal m b = legal-exactly fm n laid j m (plan-length fm n l 12 0 (penOf t)) b plan-so-far
+  plan-legal m b = legal-exactly fm n laid j m (plan-length fm n l 12 0 (cursorOf t)) b plan-so-far

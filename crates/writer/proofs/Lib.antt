@@ -14,7 +14,7 @@ pub mod GroupCases
 pub mod SaneLaws
 pub mod PlanLaws
 pub mod HoldLaws
-pub mod PenCases
+pub mod CursorCases
 pub mod LaidLaws
 pub mod StateCases
 pub mod TailLaws

@@ -22,7 +22,7 @@ use Rattle.record.specs.Records.{firstOf, messageOf}
 use Rattle.record.specs.declared.list.First.{First}
 use Rattle.record.specs.declared.list.First.the-variants.{Empty, Bad, Whole}
 use Rattle.reader.specs.Cells.{Cell}
-use Rattle.writer.specs.Plan.{emptyCell, startCell, onCell, legal, Pen, Given, nothing, startNext, give, groupAfter, penAfter, plan, penLast, penOf}
+use Rattle.writer.specs.Plan.{emptyCell, startCell, onCell, legal, Cursor, Given, nothing, startNext, give, groupAfter, cursorAfter, plan, cursorLast, cursorOf}
 use Rattle.writer.specs.Laying.{usedOf, owesAfter}
 use Rattle.writer.specs.OneWay.{cellOf, groupAt, mayStart, NoneLegal, Empties, Way, goes-on, passes-over, starts, stops, ends}
 use Rattle.writer.proofs.Run.{plan-length}
@@ -61,7 +61,7 @@ module _ (fm : Format) (n : Grant) (l : List ℕ) (es : List Cell) (used : ℕ) 
       → From g t at
   step-way g at t b c r = ⊎-elim idle busy (cases (eqb (length t) 0))
     where
-      w : Pen
+      w : Cursor
       w = record { owes = t; at = at; group = groupAt es g }
 
       busy : eqb (length t) 0 ≡ false → From g t at
@@ -106,100 +106,100 @@ group-next es g b =
 
 module _ (fm : Format) (n : Grant) (l : List ℕ) where
   -- the writer one granule further on
-  pen-further : (k g : ℕ) (w : Pen) → penLast fm n l (suc k) g w ≡ penAfter (g + k) (penLast fm n l k g w) (give fm n l (g + k) (penLast fm n l k g w))
-  unfolding penLast
-  pen-further zero g w = let e : g + 0 ≡ g = omega arith in rw e
-  pen-further (suc k) g w = let e : g + suc k ≡ (g + 1) + k = omega arith in rw e (pen-further k (g + 1) (penAfter g w (give fm n l g w)))
+  cursor-further : (k g : ℕ) (w : Cursor) → cursorLast fm n l (suc k) g w ≡ cursorAfter (g + k) (cursorLast fm n l k g w) (give fm n l (g + k) (cursorLast fm n l k g w))
+  unfolding cursorLast
+  cursor-further zero g w = let e : g + 0 ≡ g = omega arith in rw e
+  cursor-further (suc k) g w = let e : g + suc k ≡ (g + 1) + k = omega arith in rw e (cursor-further k (g + 1) (cursorAfter g w (give fm n l g w)))
 
   -- the cell of a granule is given by the writer there
-  plan-cell : (k g j : ℕ) (w : Pen) → j < k → cellOf (plan fm n l k g w) j ≡ give fm n l (g + j) (penLast fm n l j g w) .cell
-  unfolding plan penLast
+  plan-cell : (k g j : ℕ) (w : Cursor) → j < k → cellOf (plan fm n l k g w) j ≡ give fm n l (g + j) (cursorLast fm n l j g w) .cell
+  unfolding plan cursorLast
   plan-cell zero g j w b = absurd (omega arith)
   plan-cell (suc k) g zero w b = let e : g + 0 ≡ g = omega arith in rw e
-  plan-cell (suc k) g (suc j) w b = let e : g + suc j ≡ (g + 1) + j = omega arith in rw e (plan-cell k (g + 1) j (penAfter g w (give fm n l g w)) (omega arith))
+  plan-cell (suc k) g (suc j) w b = let e : g + suc j ≡ (g + 1) + j = omega arith in rw e (plan-cell k (g + 1) j (cursorAfter g w (give fm n l g w)) (omega arith))
 
 module _ (fm : Format) (n : Grant) (l t : List ℕ) where
   abbrev laid : List Cell
-  laid = plan fm n l 12 0 (penOf t)
+  laid = plan fm n l 12 0 (cursorOf t)
 
-  abbrev pen : ℕ → Pen
-  pen g = penLast fm n l g 0 (penOf t)
+  abbrev cursor : ℕ → Cursor
+  cursor g = cursorLast fm n l g 0 (cursorOf t)
 
-  pen-next : (g : ℕ) → pen (suc g) ≡ penAfter g (pen g) (give fm n l g (pen g))
-  pen-next g = let e : 0 + g ≡ g = zero-add g in rw e at (pen-further fm n l g 0 (penOf t))
+  cursor-next : (g : ℕ) → cursor (suc g) ≡ cursorAfter g (cursor g) (give fm n l g (cursor g))
+  cursor-next g = let e : 0 + g ≡ g = zero-add g in rw e at (cursor-further fm n l g 0 (cursorOf t))
 
-  cell-at : (g : ℕ) → g < 12 → cellOf laid g ≡ give fm n l g (pen g) .cell
-  cell-at g b = let e : 0 + g ≡ g = zero-add g in rw e at (plan-cell fm n l 12 0 g (penOf t) b)
+  cell-at : (g : ℕ) → g < 12 → cellOf laid g ≡ give fm n l g (cursor g) .cell
+  cell-at g b = let e : 0 + g ≡ g = zero-add g in rw e at (plan-cell fm n l 12 0 g (cursorOf t) b)
 
   twelve : length laid ≡ 12
-  twelve = plan-length fm n l 12 0 (penOf t)
+  twelve = plan-length fm n l 12 0 (cursorOf t)
 
   -- the writer has the cells of the present group
-  group-at : (g : ℕ) → g ≤ 12 → pen g .group ≡ groupAt laid g
-  unfolding penLast
+  group-at : (g : ℕ) → g ≤ 12 → cursor g .group ≡ groupAt laid g
+  unfolding cursorLast
   group-at zero b = refl
   group-at (suc g) b =
-      ap (λ (w : Pen). w .group) (pen-next g)
-      ∙ ap (λ (es : List Cell). groupAfter g es (give fm n l g (pen g) .cell)) (group-at g (omega arith))
+      ap (λ (w : Cursor). w .group) (cursor-next g)
+      ∙ ap (λ (es : List Cell). groupAfter g es (give fm n l g (cursor g) .cell)) (group-at g (omega arith))
       ∙ ap (groupAfter g (groupAt laid g)) (sym (cell-at g (omega arith)))
       ∙ group-next laid g (rw twelve (omega arith))
 
   abbrev Goes : ℕ → List ℕ → ℕ → Type 0
   Goes = Way fm n l laid (usedOf fm n t l) (owesAfter fm n t l)
 
-  way-from : (k g : ℕ) → g + k ≡ 12 → Goes g (pen g .owes) (pen g .at)
+  way-from : (k g : ℕ) → g + k ≡ 12 → Goes g (cursor g .owes) (cursor g .at)
   unfolding usedOf owesAfter
   way-from zero g e =
       let q : 12 ≡ g = omega arith in
-      ends {g = g} (sym q) (ap (λ (i : ℕ). pen i .at) q) (ap (λ (i : ℕ). pen i .owes) q)
+      ends {g = g} (sym q) (ap (λ (i : ℕ). cursor i .at) q) (ap (λ (i : ℕ). cursor i .owes) q)
   way-from (suc k) g e =
       let group = group-at g (omega arith) in
-      let same : pen g ≡ record { owes = pen g .owes; at = pen g .at; group = groupAt laid g } = λ i. record { owes = pen g .owes; at = pen g .at; group = group i } in
-      let r = subst (λ (w : Pen). Goes (suc g) (w .owes) (w .at)) (pen-next g) (way-from k (suc g) (omega arith)) in
-      step-way fm n l laid (usedOf fm n t l) (owesAfter fm n t l) g (pen g .at) (pen g .owes) (omega arith)
-      (cell-at g (omega arith) ∙ ap (λ (w : Pen). give fm n l g w .cell) same)
+      let same : cursor g ≡ record { owes = cursor g .owes; at = cursor g .at; group = groupAt laid g } = λ i. record { owes = cursor g .owes; at = cursor g .at; group = group i } in
+      let r = subst (λ (w : Cursor). Goes (suc g) (w .owes) (w .at)) (cursor-next g) (way-from k (suc g) (omega arith)) in
+      step-way fm n l laid (usedOf fm n t l) (owesAfter fm n t l) g (cursor g .at) (cursor g .owes) (omega arith)
+      (cell-at g (omega arith) ∙ ap (λ (w : Cursor). give fm n l g w .cell) same)
       (rw (add-one g) (subst (λ (v : Given). Goes (suc g) (v .owes) (v .at)) (ap (give fm n l g) same) r))
 
   -- a writer that owes t fills a container from the list l in the one way
   pub one-way : Way fm n l laid (usedOf fm n t l) (owesAfter fm n t l) 0 t 0
-  unfolding penLast
+  unfolding cursorLast
   one-way = way-from 12 0 refl
 
 -- ---- no other cells go that way
 
 module _ (fm : Format) (n : Grant) (l : List ℕ) (es : List Cell) (used : ℕ) (owes : List ℕ) (count : length es ≡ 12) where
-  abbrev penWith : ℕ → List ℕ → ℕ → Pen
-  penWith g t at = record { owes = t; at = at; group = groupAt es g }
+  abbrev cursorWith : ℕ → List ℕ → ℕ → Cursor
+  cursorWith g t at = record { owes = t; at = at; group = groupAt es g }
 
   -- the machine goes on from granule g as the cells do, to their end
   record Same (g : ℕ) (t : List ℕ) (at k : ℕ) : Type 0 where
-    same-cells : drop g es ≡ plan fm n l k g (penWith g t at)
-    same-used : used ≡ penLast fm n l k g (penWith g t at) .at
-    same-owes : owes ≡ penLast fm n l k g (penWith g t at) .owes
+    same-cells : drop g es ≡ plan fm n l k g (cursorWith g t at)
+    same-used : used ≡ cursorLast fm n l k g (cursorWith g t at) .at
+    same-owes : owes ≡ cursorLast fm n l k g (cursorWith g t at) .owes
 
-  back : (g k : ℕ) (t : List ℕ) (at : ℕ) (v : Given) → g + suc k ≡ 12 → give fm n l g (penWith g t at) ≡ v → cellOf es g ≡ v .cell
+  back : (g k : ℕ) (t : List ℕ) (at : ℕ) (v : Given) → g + suc k ≡ 12 → give fm n l g (cursorWith g t at) ≡ v → cellOf es g ≡ v .cell
       → Same (g + 1) (v .owes) (v .at) k → Same g t at (suc k)
-  unfolding plan penLast
+  unfolding plan cursorLast
   back g k t at v e q c r =
       let group : groupAt es (g + 1) ≡ groupAfter g (groupAt es g) (v .cell) =
       ap (groupAt es) (add-one g) ∙ sym (group-next es g (rw count (omega arith))) ∙ ap (groupAfter g (groupAt es g)) c in
-      let w : penWith (g + 1) (v .owes) (v .at) ≡ penAfter g (penWith g t at) (give fm n l g (penWith g t at)) =
-      (λ i. record { owes = v .owes; at = v .at; group = group i }) ∙ ap (penAfter g (penWith g t at)) (sym q) in
+      let w : cursorWith (g + 1) (v .owes) (v .at) ≡ cursorAfter g (cursorWith g t at) (give fm n l g (cursorWith g t at)) =
+      (λ i. record { owes = v .owes; at = v .at; group = group i }) ∙ ap (cursorAfter g (cursorWith g t at)) (sym q) in
       record {
         same-cells =
             drop-cons es g (emptyCell 0) (rw count (omega arith))
             ∙ ap (λ (x : Cell). x ∷ drop (suc g) es) (c ∙ ap (λ (x : Given). x .cell) (sym q))
-            ∙ ap (λ (x : List Cell). give fm n l g (penWith g t at) .cell ∷ x) (ap (λ (i : ℕ). drop i es) (sym (add-one g)) ∙ r .same-cells ∙ ap (plan fm n l k (g + 1)) w);
-        same-used = r .same-used ∙ ap (λ (x : Pen). penLast fm n l k (g + 1) x .at) w;
-        same-owes = r .same-owes ∙ ap (λ (x : Pen). penLast fm n l k (g + 1) x .owes) w;
+            ∙ ap (λ (x : List Cell). give fm n l g (cursorWith g t at) .cell ∷ x) (ap (λ (i : ℕ). drop i es) (sym (add-one g)) ∙ r .same-cells ∙ ap (plan fm n l k (g + 1)) w);
+        same-used = r .same-used ∙ ap (λ (x : Cursor). cursorLast fm n l k (g + 1) x .at) w;
+        same-owes = r .same-owes ∙ ap (λ (x : Cursor). cursorLast fm n l k (g + 1) x .owes) w;
       }
 
   -- a granule that stays empty
   give-empty : (g : ℕ) (t : List ℕ) (at : ℕ) → length t ≡ 0 → ((s f : ℕ) → firstOf (drop at l) ≡ Whole s f → mayStart fm n es g (messageOf (drop at l) s f) ≡ false)
-      → give fm n l g (penWith g t at) ≡ nothing fm g (penWith g t at)
+      → give fm n l g (cursorWith g t at) ≡ nothing fm g (cursorWith g t at)
   give-empty g t at z h = rw (eq-eqb (length t) 0 z) (by (firstOf (drop at l)) refl)
     where
-      by : (x : First) → firstOf (drop at l) ≡ x → startNext fm n l g (penWith g t at) x ≡ nothing fm g (penWith g t at)
+      by : (x : First) → firstOf (drop at l) ≡ x → startNext fm n l g (cursorWith g t at) x ≡ nothing fm g (cursorWith g t at)
       by Empty q = refl
       by Bad q = refl
       by (Whole s f) q = rw (h s f q)
@@ -215,14 +215,14 @@ module _ (fm : Format) (n : Grant) (l : List ℕ) (es : List Cell) (used : ℕ) 
       let q : g + suc d ≡ (g + 1) + d = omega arith in
       let more : suc (d + k) ≡ suc d + k = omega arith in
       subst (Same g t at) more
-      (back g (d + k) t at (nothing fm g (penWith g t at)) (omega arith)
+      (back g (d + k) t at (nothing fm g (cursorWith g t at)) (omega arith)
       (give-empty g t at z (λ s f x. none s f x g (omega arith) (omega arith))) (empty g (omega arith) (omega arith))
       (skip d k (g + 1) t at (omega arith) z (λ s f x j a b. none s f x j (omega arith) (omega arith)) (λ j a b. empty j (omega arith) (omega arith))
       (subst (λ (i : ℕ). Same i t at k) q r)))
 
   -- behind the last granule
   same-end : (g : ℕ) (t : List ℕ) (at : ℕ) → g ≡ 12 → used ≡ at → owes ≡ t → Same g t at 0
-  unfolding plan penLast
+  unfolding plan cursorLast
   same-end g t at e u o = record { same-cells = drop-of-length-le es {i = g} (rw count (omega arith)); same-used = u; same-owes = o }
 
   follow : {g at : ℕ} {t : List ℕ} → Way fm n l es used owes g t at → (k : ℕ) → g + k ≡ 12 → Same g t at k
@@ -231,7 +231,7 @@ module _ (fm : Format) (n : Grant) (l : List ℕ) (es : List Cell) (used : ℕ) 
       back g k t at (record { cell = onCell (fm .size g) t; owes = drop (fm .size g) t; at = at }) e (rw (ne-eqb (length t) 0 (λ z. omega arith), w)) c (follow r k (omega arith))
   follow (passes-over b p w c r) zero e = absurd (omega arith)
   follow (passes-over {g = g} {at = at} {t = t} b p w c r) (suc k) e =
-      back g k t at (nothing fm g (penWith g t at)) e (rw (ne-eqb (length t) 0 (λ z. omega arith), w)) c (follow r k (omega arith))
+      back g k t at (nothing fm g (cursorWith g t at)) e (rw (ne-eqb (length t) 0 (λ z. omega arith), w)) c (follow r k (omega arith))
   follow (starts {g = g} {at = at} {t = t} h s f a b z q may none empty cell r) k e =
       let there : g + (h - g) ≡ h = omega arith in
       let long : (h - g) + suc (11 - h) ≡ k = omega arith in
@@ -251,11 +251,11 @@ module _ (fm : Format) (n : Grant) (l : List ℕ) (es : List Cell) (used : ℕ) 
 
 -- the one way is that of the plan, and there is no other
 pub one-way-exactly : (fm : Format) (n : Grant) (l t : List ℕ) (es : List Cell) (used : ℕ) (owes : List ℕ)
-    → ((length es ≡ 12) × Way fm n l es used owes 0 t 0) ↔ ((es ≡ plan fm n l 12 0 (penOf t)) × (used ≡ usedOf fm n t l) × (owes ≡ owesAfter fm n t l))
+    → ((length es ≡ 12) × Way fm n l es used owes 0 t 0) ↔ ((es ≡ plan fm n l 12 0 (cursorOf t)) × (used ≡ usedOf fm n t l) × (owes ≡ owesAfter fm n t l))
 unfolding usedOf owesAfter
 one-way-exactly fm n l t es used owes = (
   λ h. let r = follow fm n l es used owes (h .0) (h .1) 12 refl in (r .same-cells, r .same-used, r .same-owes),
-  λ h. (ap length (h .0) ∙ plan-length fm n l 12 0 (penOf t), rw (h .0, h .1, h .2) (one-way fm n l t)),
+  λ h. (ap length (h .0) ∙ plan-length fm n l 12 0 (cursorOf t), rw (h .0, h .1, h .2) (one-way fm n l t)),
 )
 
 -- an Activation beside a count in the header grant has no legal granule

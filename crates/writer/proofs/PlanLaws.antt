@@ -11,27 +11,27 @@ use Rattle.lists.specs.Parts.{put}
 use Rattle.container.specs.Layout.{Format, start}
 use Rattle.container.specs.declared.grant.Grant.{Grant}
 use Rattle.reader.specs.Cells.{Cell}
-use Rattle.writer.specs.Plan.{Pen, give, penAfter, plan, penLast}
+use Rattle.writer.specs.Plan.{Cursor, give, cursorAfter, plan, cursorLast}
 use Rattle.writer.specs.Laying.{startBits, layCells}
 
 module _ (fm : Format) (n : Grant) (l : List ℕ) where
-  pub pen-last-more : (k g : ℕ) (w : Pen) → penLast fm n l (suc k) g w ≡ penAfter (g + k) (penLast fm n l k g w) (give fm n l (g + k) (penLast fm n l k g w))
-  unfolding penLast
-  pen-last-more zero g w = let e : g + 0 ≡ g = omega arith in rw e
-  pen-last-more (suc k) g w =
-      let e : (g + 1) + k ≡ g + suc k = omega arith in rw e at (pen-last-more k (g + 1) (penAfter g w (give fm n l g w)))
+  pub cursor-last-more : (k g : ℕ) (w : Cursor) → cursorLast fm n l (suc k) g w ≡ cursorAfter (g + k) (cursorLast fm n l k g w) (give fm n l (g + k) (cursorLast fm n l k g w))
+  unfolding cursorLast
+  cursor-last-more zero g w = let e : g + 0 ≡ g = omega arith in rw e
+  cursor-last-more (suc k) g w =
+      let e : (g + 1) + k ≡ g + suc k = omega arith in rw e at (cursor-last-more k (g + 1) (cursorAfter g w (give fm n l g w)))
 
-  pub plan-more : (k g : ℕ) (w : Pen) → plan fm n l (suc k) g w ≡ plan fm n l k g w ++ (give fm n l (g + k) (penLast fm n l k g w) .cell ∷ [])
-  unfolding plan penLast
+  pub plan-more : (k g : ℕ) (w : Cursor) → plan fm n l (suc k) g w ≡ plan fm n l k g w ++ (give fm n l (g + k) (cursorLast fm n l k g w) .cell ∷ [])
+  unfolding plan cursorLast
   plan-more zero g w = let e : g + 0 ≡ g = omega arith in rw e
   plan-more (suc k) g w =
       let e : (g + 1) + k ≡ g + suc k = omega arith in
-      ap (λ (es : List Cell). give fm n l g w .cell ∷ es) (rw e at (plan-more k (g + 1) (penAfter g w (give fm n l g w))))
+      ap (λ (es : List Cell). give fm n l g w .cell ∷ es) (rw e at (plan-more k (g + 1) (cursorAfter g w (give fm n l g w))))
 
-  pub plan-length : (k g : ℕ) (w : Pen) → length (plan fm n l k g w) ≡ k
+  pub plan-length : (k g : ℕ) (w : Cursor) → length (plan fm n l k g w) ≡ k
   unfolding plan
   plan-length zero g w = refl
-  plan-length (suc k) g w = ap suc (plan-length k (g + 1) (penAfter g w (give fm n l g w)))
+  plan-length (suc k) g w = ap suc (plan-length k (g + 1) (cursorAfter g w (give fm n l g w)))
 
 bit-more : (a s k : ℕ) (b : Bool) → a + 2 * (s + pick b k 0) ≡ (a + 2 * s) + pick b (k * 2) 0
 bit-more a s k true = omega arith

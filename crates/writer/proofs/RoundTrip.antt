@@ -34,7 +34,7 @@ use Rattle.reader.specs.declared.reader.Step.{Step}
 use Rattle.reader.specs.declared.reader.Answer.the-variants as read
 use Rattle.reader.proofs.CarryLaws.{with-valid}
 use Rattle.reader.proofs.AnswerLaws.{read-done}
-use Rattle.writer.specs.Plan.{startCell, groupOk, legal, Pen, Given, give, penAfter, plan, penLast, penOf}
+use Rattle.writer.specs.Plan.{startCell, groupOk, legal, Cursor, Given, give, cursorAfter, plan, cursorLast, cursorOf}
 use Rattle.writer.specs.Laying.{filled, owesAfter, usedOf}
 use Rattle.writer.specs.Filling.{tailOf, writerWith, callChecks, fillFault, answerOf, filling, fillBytes}
 use Rattle.writer.specs.Calls.{Fills, Reads, underWay}
@@ -79,14 +79,14 @@ module _ (fm : Format) (n : Grant) (l : List ℕ) (counts : noCounts n ≡ false
   give-quiet g at es m t ms (busy h a b pm pt) left =
       ⊎-elim (λ w. subst Quiet (sym (give-on fm n l g at es t pt w)) refl) (λ w. subst Quiet (sym (give-over fm n l g at es t pt w)) refl) (cases (wide fm g))
 
-  plan-quiet : (k g : ℕ) (m : List ℕ) (ms : List (List ℕ)) (w : Pen) → Link m (w .owes) → Left l (w .at) ms → sumOf activations (plan fm n l k g w) ≡ 0
+  plan-quiet : (k g : ℕ) (m : List ℕ) (ms : List (List ℕ)) (w : Cursor) → Link m (w .owes) → Left l (w .at) ms → sumOf activations (plan fm n l k g w) ≡ 0
   unfolding plan
   plan-quiet zero g m ms w link left = refl
   plan-quiet (suc k) g m ms w link left =
       let s = step-followed fm n l g (w .at) (w .group) m (w .owes) ms link left in
       rw (
         give-quiet g (w .at) (w .group) m (w .owes) ms link left,
-        plan-quiet k (g + 1) (after fm g (give fm n l g w .cell) m) (s .rest) (penAfter g w (give fm n l g w)) (s .follows .link) (s .left),
+        plan-quiet k (g + 1) (after fm g (give fm n l g w .cell) m) (s .rest) (cursorAfter g w (give fm n l g w)) (s .follows .link) (s .left),
       )
 
 -- ---- what is carried and owed
@@ -128,16 +128,16 @@ module _ (f : ℕ) (n : Grant) (low : n .rp < 8) (allowed : planeAllowed n ≡ t
   fm = formatOf f
 
   abbrev laid : List Cell
-  laid = plan fm n l 12 0 (penOf t)
+  laid = plan fm n l 12 0 (cursorOf t)
 
   abbrev box : List ℕ
   box = filled fm n t l
 
-  pub ran : Ran fm l 0 m t 0 ms laid (penLast fm n l 12 0 (penOf t))
-  ran = plan-followed fm n l 12 0 m ms (penOf t) link left
+  pub ran : Ran fm l 0 m t 0 ms laid (cursorLast fm n l 12 0 (cursorOf t))
+  ran = plan-followed fm n l 12 0 m ms (cursorOf t) link left
 
   twelve : length laid ≡ 12
-  twelve = plan-length fm n l 12 0 (penOf t)
+  twelve = plan-length fm n l 12 0 (cursorOf t)
 
   sized : made.Sized fm 0 laid
   sized = made.written-sized fm laid 0 m (ran .written)
@@ -157,7 +157,7 @@ module _ (f : ℕ) (n : Grant) (low : n .rp < 8) (allowed : planeAllowed n ≡ t
   box-passes : Pass (containerChecks fm m box laid)
   unfolding containerChecks filled
   box-passes =
-      let groups = groups-pass fm n l (lawful-of f .narrow-last) 4 0 0 (penOf t) (omega arith) refl refl (packed-none t) in
+      let groups = groups-pass fm n l (lawful-of f .narrow-last) 4 0 0 (cursorOf t) (omega arith) refl refl (packed-none t) in
       let behind = pass-append (groupChecks 4 0 laid) (lastChecks fm m box laid) groups (is-quiet, (ends-here f m t link, tt)) in
       let granules = written-passes fm laid 0 m (ran .written) in
       let allowed-there = subst (λ (k : Grant). planeAllowed k ≡ true) (sym box-grant) allowed in
@@ -168,7 +168,7 @@ module _ (f : ℕ) (n : Grant) (low : n .rp < 8) (allowed : planeAllowed n ≡ t
       is-quiet =
           subst (λ (k : Grant). (eqb (sumOf activations laid) 0 || noCounts k) ≡ true) (sym box-grant)
           (⊎-elim (λ (e : noCounts n ≡ true). rw e (or-true (eqb (sumOf activations laid) 0)))
-          (λ (e : noCounts n ≡ false). rw (plan-quiet fm n l e 12 0 m ms (penOf t) link left)) (cases (noCounts n)))
+          (λ (e : noCounts n ≡ false). rw (plan-quiet fm n l e 12 0 m ms (cursorOf t) link left)) (cases (noCounts n)))
 
   -- ---- its reading
   module _ (small : f < 2) where
@@ -304,9 +304,9 @@ module _ (f : ℕ) (small : f < 2) (m t l c : List ℕ) (n : Grant) (u : ℕ) (w
   unfolding owesAfter usedOf
   read-with =
       let r = ran f n (h .low) (h .allowed) m t l ms link left in
-      let m′ = carryAfter (formatOf f) 0 (plan (formatOf f) n l 12 0 (penOf t)) m in
-      let t′ = penLast (formatOf f) n l 12 0 (penOf t) .owes in
-      let es = endings (formatOf f) 0 (plan (formatOf f) n l 12 0 (penOf t)) m in
+      let m′ = carryAfter (formatOf f) 0 (plan (formatOf f) n l 12 0 (cursorOf t)) m in
+      let t′ = cursorLast (formatOf f) n l 12 0 (cursorOf t) .owes in
+      let es = endings (formatOf f) 0 (plan (formatOf f) n l 12 0 (cursorOf t)) m in
       record {
         next = readerWith f m′;
         out = recordsOf es;

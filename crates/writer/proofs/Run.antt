@@ -12,13 +12,13 @@ use Rattle.container.specs.Layout.{Format, wide, granule, bit, msgStart}
 use Rattle.container.specs.declared.grant.Grant.{Grant}
 use Rattle.reader.specs.Cells.{Cell, owed, cellAt, after, ended, cells, carryAfter, endings}
 use Rattle.reader.specs.Checking.{cellChecks}
-use Rattle.writer.specs.Plan.{Pen, Given, give, penAfter, plan, penLast}
+use Rattle.writer.specs.Plan.{Cursor, Given, give, cursorAfter, plan, cursorLast}
 use Rattle.writer.proofs.Simulation.{Link, begun, Left, Steps, step-followed}
 
-pub plan-length : (fm : Format) (n : Grant) (l : List ℕ) (k g : ℕ) (w : Pen) → length (plan fm n l k g w) ≡ k
+pub plan-length : (fm : Format) (n : Grant) (l : List ℕ) (k g : ℕ) (w : Cursor) → length (plan fm n l k g w) ≡ k
 unfolding plan
 plan-length fm n l zero g w = refl
-plan-length fm n l (suc k) g w = ap suc (plan-length fm n l k (g + 1) (penAfter g w (give fm n l g w)))
+plan-length fm n l (suc k) g w = ap suc (plan-length fm n l k (g + 1) (cursorAfter g w (give fm n l g w)))
 
 -- a cell of the writer, with m read before it: as the reader sees it, of its granule's size, and with its rules kept
 pub record WrittenCell (fm : Format) (g : ℕ) (m : List ℕ) (e : Cell) : Type 0 where
@@ -32,7 +32,7 @@ Written fm g m [] = Unit {0}
 Written fm g m (e ∷ es) = WrittenCell fm g m e × Written fm (g + 1) (after fm g e m) es
 
 -- the reader behind the cells es from granule g on, and the writer behind them
-pub record Ran (fm : Format) (l : List ℕ) (g : ℕ) (m t : List ℕ) (at : ℕ) (ms : List (List ℕ)) (es : List Cell) (w : Pen) : Type 0 where
+pub record Ran (fm : Format) (l : List ℕ) (g : ℕ) (m t : List ℕ) (at : ℕ) (ms : List (List ℕ)) (es : List Cell) (w : Cursor) : Type 0 where
   pub written : Written fm g m es
   pub rest : List (List ℕ)
   pub left : Left l (w .at) rest
@@ -47,26 +47,26 @@ moved-on p q =
     (λ x. ⊎-elim (λ y. inr (omega (arith, y .1))) (λ y. inr (omega arith)) q) p
 
 module _ (fm : Format) (n : Grant) (l : List ℕ) where
-  pub plan-followed : (k g : ℕ) (m : List ℕ) (ms : List (List ℕ)) (w : Pen) → Link m (w .owes) → Left l (w .at) ms
-      → Ran fm l g m (w .owes) (w .at) ms (plan fm n l k g w) (penLast fm n l k g w)
-  unfolding plan penLast carryAfter endings
+  pub plan-followed : (k g : ℕ) (m : List ℕ) (ms : List (List ℕ)) (w : Cursor) → Link m (w .owes) → Left l (w .at) ms
+      → Ran fm l g m (w .owes) (w .at) ms (plan fm n l k g w) (cursorLast fm n l k g w)
+  unfolding plan cursorLast carryAfter endings
   plan-followed zero g m ms w link left = record { written = tt; rest = ms; left = left; link = link; out = refl; moved = inl (refl, refl) }
   plan-followed (suc k) g m ms w link left =
       joined (step-followed fm n l g (w .at) (w .group) m (w .owes) ms link left)
-      (λ rest a b. plan-followed k (g + 1) (after fm g (give fm n l g w .cell) m) rest (penAfter g w (give fm n l g w)) a b)
+      (λ rest a b. plan-followed k (g + 1) (after fm g (give fm n l g w .cell) m) rest (cursorAfter g w (give fm n l g w)) a b)
     where
       v : Given
       v = give fm n l g w
 
       es : List Cell
-      es = plan fm n l k (g + 1) (penAfter g w v)
+      es = plan fm n l k (g + 1) (cursorAfter g w v)
 
       m′ : List ℕ
       m′ = after fm g (v .cell) m
 
       joined : Steps fm l g m (w .owes) (w .at) ms v
-          → ((rest : List (List ℕ)) → Link m′ (v .owes) → Left l (v .at) rest → Ran fm l (g + 1) m′ (v .owes) (v .at) rest es (penLast fm n l k (g + 1) (penAfter g w v)))
-          → Ran fm l g m (w .owes) (w .at) ms (v .cell ∷ es) (penLast fm n l k (g + 1) (penAfter g w v))
+          → ((rest : List (List ℕ)) → Link m′ (v .owes) → Left l (v .at) rest → Ran fm l (g + 1) m′ (v .owes) (v .at) rest es (cursorLast fm n l k (g + 1) (cursorAfter g w v)))
+          → Ran fm l g m (w .owes) (w .at) ms (v .cell ∷ es) (cursorLast fm n l k (g + 1) (cursorAfter g w v))
       joined s go =
           let f = s .follows in
           let r = go (s .rest) (f .link) (s .left) in

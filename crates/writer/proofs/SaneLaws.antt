@@ -30,9 +30,9 @@ use Rattle.record.specs.declared.number.Number.the-variants.{Broken, Value}
 use Rattle.record.specs.declared.list.First.{First}
 use Rattle.record.specs.declared.list.First.the-variants.{Empty, Bad, Whole}
 use Rattle.record.proofs.RecordLaws.{first-within}
-use Rattle.writer.specs.Holding.{groupNext, legalBy, Sane, penEmpty, penOn, penStart, penFirst, penNext, penStarting, penAt}
+use Rattle.writer.specs.Holding.{groupNext, legalBy, Sane, cursorEmpty, cursorOn, cursorStart, cursorFirst, cursorNext, cursorStarting, cursorAt}
 use Rattle.writer.specs.declared.group.Group.{Group}
-use Rattle.writer.specs.declared.pen.Pen.{Pen}
+use Rattle.writer.specs.declared.cursor.Cursor.{Cursor}
 
 -- ---- a first record is a whole message
 
@@ -119,8 +119,8 @@ legal-starts fm n g e t o h =
       );
     }
 
-module _ (f : ℕ) (n : Grant) (t l : List ℕ) (short : length t ≤ 100) (fits : length l ≤ 4096) (g : ℕ) (b : g < 12) (p : Pen) (h : Sane t l g p) where
-  sane-empty : Sane t l (suc g) (penEmpty g p)
+module _ (f : ℕ) (n : Grant) (t l : List ℕ) (short : length t ≤ 100) (fits : length l ≤ 4096) (g : ℕ) (b : g < 12) (p : Cursor) (h : Sane t l g p) where
+  sane-empty : Sane t l (suc g) (cursorEmpty g p)
   sane-empty =
       let few = h .few in
       let low = h .starts-low in
@@ -137,7 +137,7 @@ module _ (f : ℕ) (n : Grant) (t l : List ℕ) (short : length t ≤ 100) (fits
   source-length : length (pick (p .tail) t l) ≤ 4096
   source-length = pick-by (λ (s : List ℕ). length s ≤ 4096) (p .tail) (λ _. omega arith) (λ _. fits)
 
-  sane-on : (p .left ≡ 0 → ⊥) → Sane t l (suc g) (penOn g p)
+  sane-on : (p .left ≡ 0 → ⊥) → Sane t l (suc g) (cursorOn g p)
   sane-on some =
       let few = h .few in
       let low = h .starts-low in
@@ -161,7 +161,7 @@ module _ (f : ℕ) (n : Grant) (t l : List ℕ) (short : length t ≤ 100) (fits
     found = messageOf (drop (p .at) l) s e
 
     sane-start-message : legalBy (formatOf f) n g (p .group) (typeOf found) (opOf found) ≡ true
-        → Sane t l (suc g) (penStart (formatOf f .size g) g p s e (typeOf found))
+        → Sane t l (suc g) (cursorStart (formatOf f .size g) g p s e (typeOf found))
     sane-start-message ok =
         let legal = legal-starts (formatOf f) n g (p .group) (typeOf found) (opOf found) ok in
         let few = legal .few in
@@ -182,7 +182,7 @@ module _ (f : ℕ) (n : Grant) (t l : List ℕ) (short : length t ≤ 100) (fits
           few = group-few g (p .group) true (miscsBy (typeOf found)) (responsesBy (typeOf found)) (omega arith) (omega arith);
         }
 
-  sane-first : (r : First) → firstOf (drop (p .at) l) ≡ r → Sane t l (suc g) (penFirst (formatOf f) n l g p r)
+  sane-first : (r : First) → firstOf (drop (p .at) l) ≡ r → Sane t l (suc g) (cursorFirst (formatOf f) n l g p r)
   sane-first Empty q = sane-empty
   sane-first Bad q = sane-empty
   sane-first (Whole s e) q =
@@ -190,18 +190,18 @@ module _ (f : ℕ) (n : Grant) (t l : List ℕ) (short : length t ≤ 100) (fits
       (λ ok. sane-start-message s e (first-record l (p .at) s e (h .used) q) ok)
       (λ _. sane-empty)
 
-  -- the pen behind granule g
-  pub sane-next : Sane t l (suc g) (penNext (formatOf f) n t l g p)
-  unfolding penNext
+  -- the cursor behind granule g
+  pub sane-next : Sane t l (suc g) (cursorNext (formatOf f) n t l g p)
+  unfolding cursorNext
   sane-next =
       pick-by (Sane t l (suc g)) (eqb (p .left) 0) (λ _. sane-first (firstOf (drop (p .at) l)) refl)
       (λ some. pick-by (Sane t l (suc g)) (wide (formatOf f) g) (λ _. sane-on (eqb-false (p .left) 0 some)) (λ _. sane-empty))
 
-  pub sane-more : Sane t l (g + 1) (penNext (formatOf f) n t l g p)
+  pub sane-more : Sane t l (g + 1) (cursorNext (formatOf f) n t l g p)
   sane-more = rw (add-one g) sane-next
 
--- the pen at the start of a container
-pub sane-start : (t l : List ℕ) → length t ≤ 100 → length t % 20 ≡ 0 → Sane t l 0 (penStarting t)
+-- the cursor at the start of a container
+pub sane-start : (t l : List ℕ) → length t ≤ 100 → length t % 20 ≡ 0 → Sane t l 0 (cursorStarting t)
 sane-start t l short whole =
     record {
       within = λ _. omega arith;
@@ -213,9 +213,9 @@ sane-start t l short whole =
       few = (omega arith, omega arith);
     }
 
--- the pen when a granule is reached
-pub sane-at : (f : ℕ) (n : Grant) (t l : List ℕ) → length t ≤ 100 → length t % 20 ≡ 0 → length l ≤ 4096 → (g : ℕ) → g ≤ 12 → Sane t l g (penAt (formatOf f) n t l g)
-unfolding penAt
+-- the cursor when a granule is reached
+pub sane-at : (f : ℕ) (n : Grant) (t l : List ℕ) → length t ≤ 100 → length t % 20 ≡ 0 → length l ≤ 4096 → (g : ℕ) → g ≤ 12 → Sane t l g (cursorAt (formatOf f) n t l g)
+unfolding cursorAt
 sane-at f n t l short whole fits zero b = sane-start t l short whole
 sane-at f n t l short whole fits (suc g) b =
-    sane-next f n t l short fits g b (penAt (formatOf f) n t l g) (sane-at f n t l short whole fits g (omega arith))
+    sane-next f n t l short fits g b (cursorAt (formatOf f) n t l g) (sane-at f n t l short whole fits g (omega arith))

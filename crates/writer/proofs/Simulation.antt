@@ -27,7 +27,7 @@ use Rattle.record.specs.declared.list.First.the-variants.{Empty, Whole}
 use Rattle.record.proofs.RecordLaws.{first-written, message-some}
 use Rattle.reader.specs.Cells.{Cell, owed, whole, after, ended}
 use Rattle.reader.specs.Checking.{startsAlone, startKnown, startPlaced, startHeaded, restZero, cellChecks}
-use Rattle.writer.specs.Plan.{emptyCell, startCell, onCell, groupOk, legal, Pen, Given, nothing, give}
+use Rattle.writer.specs.Plan.{emptyCell, startCell, onCell, groupOk, legal, Cursor, Given, nothing, give}
 
 -- what the reader has of a message and what the writer owes of it: neither, or whole granules of one message, some of each
 pub data Link : List ℕ → List ℕ → Type 0 where
@@ -332,32 +332,32 @@ legal-placed fm n g es m e =
     (and-left (placed fm g m && (not (isMisc m activation) || noCounts n)) (groupOk (es ++ (startCell (fm .size g) m ∷ []))) e)
 
 module _ (fm : Format) (n : Grant) (l : List ℕ) (g at : ℕ) (es : List Cell) where
-  abbrev pen : List ℕ → Pen
-  pen t = record { owes = t; at = at; group = es }
+  abbrev cursor : List ℕ → Cursor
+  cursor t = record { owes = t; at = at; group = es }
 
   -- what is given where nothing is owed: the next message where it may start
   pub give-next : (m : List ℕ) (ms : List (List ℕ)) → Left l at (m ∷ ms) → legal fm n g es m ≡ true
-      → give fm n l g (pen []) ≡ record { cell = startCell (fm .size g) m; owes = drop (fm .size g) m; at = at + (sizeLength m + length m) }
+      → give fm n l g (cursor []) ≡ record { cell = startCell (fm .size g) m; owes = drop (fm .size g) m; at = at + (sizeLength m + length m) }
   give-next m ms h t = rw (first-next l at m ms h, message-next l at m ms h, t)
 
-  pub give-not : (m : List ℕ) (ms : List (List ℕ)) → Left l at (m ∷ ms) → legal fm n g es m ≡ false → give fm n l g (pen []) ≡ nothing fm g (pen [])
+  pub give-not : (m : List ℕ) (ms : List (List ℕ)) → Left l at (m ∷ ms) → legal fm n g es m ≡ false → give fm n l g (cursor []) ≡ nothing fm g (cursor [])
   give-not m ms h t = rw (first-next l at m ms h, message-next l at m ms h, t)
 
-  pub give-none : Left l at [] → give fm n l g (pen []) ≡ nothing fm g (pen [])
+  pub give-none : Left l at [] → give fm n l g (cursor []) ≡ nothing fm g (cursor [])
   give-none h = rw (first-none l at h)
 
   -- what is given where bytes are owed: the next of them, but in a narrow granule none
-  pub give-on : (t : List ℕ) → 0 < length t → wide fm g ≡ true → give fm n l g (pen t) ≡ record { cell = onCell 20 t; owes = drop 20 t; at = at }
+  pub give-on : (t : List ℕ) → 0 < length t → wide fm g ≡ true → give fm n l g (cursor t) ≡ record { cell = onCell 20 t; owes = drop 20 t; at = at }
   give-on t p w = rw (ne-eqb (length t) 0 (λ z. omega arith), w, eqb-true (fm .size g) 20 w)
 
-  pub give-over : (t : List ℕ) → 0 < length t → wide fm g ≡ false → give fm n l g (pen t) ≡ nothing fm g (pen t)
+  pub give-over : (t : List ℕ) → 0 < length t → wide fm g ≡ false → give fm n l g (cursor t) ≡ nothing fm g (cursor t)
   give-over t p w = rw (ne-eqb (length t) 0 (λ z. omega arith), w)
 
-  idle-step : (ms : List (List ℕ)) → Left l at ms → Steps fm l g [] [] at ms (give fm n l g (pen []))
+  idle-step : (ms : List (List ℕ)) → Left l at ms → Steps fm l g [] [] at ms (give fm n l g (cursor []))
   idle-step [] h = subst (Steps fm l g [] [] at []) (sym (give-none h)) (record { rest = []; left = h; follows = idle-nothing fm g []; moved = inl (refl, refl) })
   idle-step (m ∷ ms) h = ⊎-elim may may-not (cases (legal fm n g es m))
     where
-      may : legal fm n g es m ≡ true → Steps fm l g [] [] at (m ∷ ms) (give fm n l g (pen []))
+      may : legal fm n g es m ≡ true → Steps fm l g [] [] at (m ∷ ms) (give fm n l g (cursor []))
       may t =
           subst (Steps fm l g [] [] at (m ∷ ms)) (sym (give-next m ms h t))
           (record {
@@ -367,19 +367,19 @@ module _ (fm : Format) (n : Grant) (l : List ℕ) (g at : ℕ) (es : List Cell) 
             moved = inr (let k = next-some l at m ms h in omega arith);
           })
 
-      may-not : legal fm n g es m ≡ false → Steps fm l g [] [] at (m ∷ ms) (give fm n l g (pen []))
+      may-not : legal fm n g es m ≡ false → Steps fm l g [] [] at (m ∷ ms) (give fm n l g (cursor []))
       may-not t =
           subst (Steps fm l g [] [] at (m ∷ ms)) (sym (give-not m ms h t))
           (record { rest = m ∷ ms; left = h; follows = idle-nothing fm g (m ∷ ms); moved = inl (refl, refl) })
 
-  pub step-followed : (m t : List ℕ) (ms : List (List ℕ)) → Link m t → Left l at ms → Steps fm l g m t at ms (give fm n l g (pen t))
+  pub step-followed : (m t : List ℕ) (ms : List (List ℕ)) → Link m t → Left l at ms → Steps fm l g m t at ms (give fm n l g (cursor t))
   step-followed m t ms idle left = idle-step ms left
   step-followed m t ms (busy h a b pm pt) left = ⊎-elim in-wide in-narrow (cases (wide fm g))
     where
       made : {v : Given} → v .at ≡ at → Follows fm g m t ms (v .cell) (v .owes) ms → Steps fm l g m t at ms v
       made e f = record { rest = ms; left = rw e left; follows = f; moved = inl (refl, e) }
 
-      in-wide : wide fm g ≡ true → Steps fm l g m t at ms (give fm n l g (pen t))
+      in-wide : wide fm g ≡ true → Steps fm l g m t at ms (give fm n l g (cursor t))
       in-wide w = subst (Steps fm l g m t at ms) (sym (give-on t pt w)) (⊎-elim last further (cases (leb (length t) 20)))
         where
           last : leb (length t) 20 ≡ true → Steps fm l g m t at ms (record { cell = onCell 20 t; owes = drop 20 t; at = at })
@@ -390,5 +390,5 @@ module _ (fm : Format) (n : Grant) (l : List ℕ) (g at : ℕ) (es : List Cell) 
           further : leb (length t) 20 ≡ false → Steps fm l g m t at ms (record { cell = onCell 20 t; owes = drop 20 t; at = at })
           further e = made refl (goes-on m t h a b pm pt fm g ms w (leb-false (length t) 20 e))
 
-      in-narrow : wide fm g ≡ false → Steps fm l g m t at ms (give fm n l g (pen t))
+      in-narrow : wide fm g ≡ false → Steps fm l g m t at ms (give fm n l g (cursor t))
       in-narrow w = subst (Steps fm l g m t at ms) (sym (give-over t pt w)) (made refl (passes-over m t h a b pm pt fm g ms w))

@@ -16,7 +16,7 @@ use Rattle.record.specs.Records.{firstOf, messageOf}
 use Rattle.record.specs.declared.list.First.{First}
 use Rattle.record.specs.declared.list.First.the-variants.{Empty, Bad, Whole}
 use Rattle.writer.specs.declared.group.Group.{Group}
-use Rattle.writer.specs.declared.pen.Pen.{Pen}
+use Rattle.writer.specs.declared.cursor.Cursor.{Cursor}
 
 -- a group with no cell yet
 abbrev pub noGroup : Group
@@ -34,11 +34,11 @@ legalBy fm n g e t o =
     && (e .full && (leb (e .miscs + miscsBy t) 1 && leb (e .responses + responsesBy t) 4))
 
 -- the bytes owed: a part of the old tail, or of the list
-abbrev pub owedOf : List ℕ → List ℕ → Pen → List ℕ
+abbrev pub owedOf : List ℕ → List ℕ → Cursor → List ℕ
 owedOf t l p = part (p .from) (p .left) (pick (p .tail) t l)
 
--- what a pen refers to lies inside the tail and the list, whole granules are owed, and its counts are small, when granule g is reached
-pub record Sane (t l : List ℕ) (g : ℕ) (p : Pen) : Type 0 where
+-- what a cursor refers to lies inside the tail and the list, whole granules are owed, and its counts are small, when granule g is reached
+pub record Sane (t l : List ℕ) (g : ℕ) (p : Cursor) : Type 0 where
   pub within : 0 < p .left → p .from + p .left ≤ length (pick (p .tail) t l)
   pub granules : p .left % 20 ≡ 0
   pub most : p .left ≤ 100
@@ -48,8 +48,8 @@ pub record Sane (t l : List ℕ) (g : ℕ) (p : Pen) : Type 0 where
   pub few : (p .group .miscs ≤ 2) × (p .group .responses ≤ 4)
 
 -- granule g stays empty
-abbrev pub penEmpty : ℕ → Pen → Pen
-penEmpty g p = record {
+abbrev pub cursorEmpty : ℕ → Cursor → Cursor
+cursorEmpty g p = record {
   tail = p .tail;
   from = p .from;
   left = p .left;
@@ -59,8 +59,8 @@ penEmpty g p = record {
 }
 
 -- what is owed goes on in granule g
-abbrev pub penOn : ℕ → Pen → Pen
-penOn g p = record {
+abbrev pub cursorOn : ℕ → Cursor → Cursor
+cursorOn g p = record {
   tail = p .tail;
   from = p .from + 20;
   left = p .left - 20;
@@ -70,8 +70,8 @@ penOn g p = record {
 }
 
 -- the record from start to end of what is left of the list starts in granule g of n bytes, with type t
-abbrev pub penStart : ℕ → ℕ → Pen → ℕ → ℕ → ℕ → Pen
-penStart n g p s e t = record {
+abbrev pub cursorStart : ℕ → ℕ → Cursor → ℕ → ℕ → ℕ → Cursor
+cursorStart n g p s e t = record {
   tail = false;
   from = p .at + (s + n);
   left = (e - s) - n;
@@ -80,17 +80,17 @@ penStart n g p s e t = record {
   group = groupNext g (p .group) true (miscsBy t) (responsesBy t);
 }
 
--- the next pen where nothing is owed, by the first record of what is left of the list
-abbrev pub penFirst : Format → Grant → List ℕ → ℕ → Pen → First → Pen
-penFirst fm n l g p Empty = penEmpty g p
-penFirst fm n l g p Bad = penEmpty g p
-penFirst fm n l g p (Whole s e) =
+-- the next cursor where nothing is owed, by the first record of what is left of the list
+abbrev pub cursorFirst : Format → Grant → List ℕ → ℕ → Cursor → First → Cursor
+cursorFirst fm n l g p Empty = cursorEmpty g p
+cursorFirst fm n l g p Bad = cursorEmpty g p
+cursorFirst fm n l g p (Whole s e) =
     pick (legalBy fm n g (p .group) (typeOf (messageOf (drop (p .at) l) s e)) (opOf (messageOf (drop (p .at) l) s e)))
-    (penStart (fm .size g) g p s e (typeOf (messageOf (drop (p .at) l) s e)))
-    (penEmpty g p)
+    (cursorStart (fm .size g) g p s e (typeOf (messageOf (drop (p .at) l) s e)))
+    (cursorEmpty g p)
 
 -- the bytes of the granule then, before the zeros behind them
-abbrev pub bytesFirst : Format → Grant → List ℕ → ℕ → Pen → First → List ℕ
+abbrev pub bytesFirst : Format → Grant → List ℕ → ℕ → Cursor → First → List ℕ
 bytesFirst fm n l g p Empty = []
 bytesFirst fm n l g p Bad = []
 bytesFirst fm n l g p (Whole s e) =
@@ -98,26 +98,26 @@ bytesFirst fm n l g p (Whole s e) =
     (take (fm .size g) (messageOf (drop (p .at) l) s e))
     []
 
--- the pen behind granule g
-unfoldable pub penNext : Format → Grant → List ℕ → List ℕ → ℕ → Pen → Pen
-penNext fm n t l g p =
-    pick (eqb (p .left) 0) (penFirst fm n l g p (firstOf (drop (p .at) l))) (pick (wide fm g) (penOn g p) (penEmpty g p))
+-- the cursor behind granule g
+unfoldable pub cursorNext : Format → Grant → List ℕ → List ℕ → ℕ → Cursor → Cursor
+cursorNext fm n t l g p =
+    pick (eqb (p .left) 0) (cursorFirst fm n l g p (firstOf (drop (p .at) l))) (pick (wide fm g) (cursorOn g p) (cursorEmpty g p))
 
 -- the bytes that granule g is given, before the zeros behind them
-unfoldable pub bytesNext : Format → Grant → List ℕ → List ℕ → ℕ → Pen → List ℕ
+unfoldable pub bytesNext : Format → Grant → List ℕ → List ℕ → ℕ → Cursor → List ℕ
 bytesNext fm n t l g p =
     pick (eqb (p .left) 0) (bytesFirst fm n l g p (firstOf (drop (p .at) l))) (pick (wide fm g) (take 20 (owedOf t l p)) [])
 
--- the pen at the start of a container whose tail is t
-abbrev pub penStarting : List ℕ → Pen
-penStarting t = record { tail = true; from = 0; left = length t; at = 0; starts = 0; group = noGroup }
+-- the cursor at the start of a container whose tail is t
+abbrev pub cursorStarting : List ℕ → Cursor
+cursorStarting t = record { tail = true; from = 0; left = length t; at = 0; starts = 0; group = noGroup }
 
--- the pen when granule g is reached
-unfoldable pub penAt : Format → Grant → List ℕ → List ℕ → ℕ → Pen
-penAt fm n t l zero = penStarting t
-penAt fm n t l (suc g) = penNext fm n t l g (penAt fm n t l g)
+-- the cursor when granule g is reached
+unfoldable pub cursorAt : Format → Grant → List ℕ → List ℕ → ℕ → Cursor
+cursorAt fm n t l zero = cursorStarting t
+cursorAt fm n t l (suc g) = cursorNext fm n t l g (cursorAt fm n t l g)
 
 -- a container of zeros with the granules below g filled
 unfoldable pub laidTo : Format → Grant → List ℕ → List ℕ → ℕ → List ℕ
 laidTo fm n t l zero = replicate 256 0
-laidTo fm n t l (suc g) = put (start g) (pad (fm .size g) (bytesNext fm n t l g (penAt fm n t l g))) (laidTo fm n t l g)
+laidTo fm n t l (suc g) = put (start g) (pad (fm .size g) (bytesNext fm n t l g (cursorAt fm n t l g))) (laidTo fm n t l g)

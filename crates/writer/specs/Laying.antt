@@ -7,7 +7,7 @@ use Rattle.lists.specs.Parts.{put}
 use Rattle.container.specs.Layout.{Format, start}
 use Rattle.container.specs.declared.grant.Grant.{Grant}
 use Rattle.reader.specs.Cells.{Cell}
-use Rattle.writer.specs.Plan.{plan, penLast, penOf}
+use Rattle.writer.specs.Plan.{plan, cursorLast, cursorOf}
 
 -- MsgStart of cells, bit g for granule g
 abbrev pub startBits : List Cell → ℕ
@@ -38,11 +38,11 @@ containerOf fm n es = setAll (fm .place) 0 (headerBytes n (startBits es)) (layCe
 
 -- the container that a writer owing t fills from the list l
 unfoldable pub filled : Format → Grant → List ℕ → List ℕ → List ℕ
-filled fm n t l = containerOf fm n (plan fm n l 12 0 (penOf t))
+filled fm n t l = containerOf fm n (plan fm n l 12 0 (cursorOf t))
 
 -- what it owes, and how many bytes of the list it has used, behind that container
 unfoldable pub owesAfter : Format → Grant → List ℕ → List ℕ → List ℕ
-owesAfter fm n t l = penLast fm n l 12 0 (penOf t) .owes
+owesAfter fm n t l = cursorLast fm n l 12 0 (cursorOf t) .owes
 
 unfoldable pub usedOf : Format → Grant → List ℕ → List ℕ → ℕ
-usedOf fm n t l = penLast fm n l 12 0 (penOf t) .at
+usedOf fm n t l = cursorLast fm n l 12 0 (cursorOf t) .at

@@ -39,7 +39,7 @@ legal fm n g es m =
     (placed fm g m && (not (isMisc m activation) || noCounts n)) && groupOk (es ++ (startCell (fm .size g) m ∷ []))
 
 -- the writer inside a container: the bytes owed, the bytes of the list used, and the cells of the present group so far
-pub record Pen : Type 0 where
+pub record Cursor : Type 0 where
   pub owes : List ℕ
   pub at : ℕ
   pub group : List Cell
@@ -51,11 +51,11 @@ pub record Given : Type 0 where
   pub at : ℕ
 
 -- the granule stays empty
-abbrev pub nothing : Format → ℕ → Pen → Given
+abbrev pub nothing : Format → ℕ → Cursor → Given
 nothing fm g w = record { cell = emptyCell (fm .size g); owes = w .owes; at = w .at }
 
 -- the next record starts where it may
-abbrev pub startNext : Format → Grant → List ℕ → ℕ → Pen → First → Given
+abbrev pub startNext : Format → Grant → List ℕ → ℕ → Cursor → First → Given
 startNext fm n l g w Empty = nothing fm g w
 startNext fm n l g w Bad = nothing fm g w
 startNext fm n l g w (Whole start end) =
@@ -68,7 +68,7 @@ startNext fm n l g w (Whole start end) =
     (nothing fm g w)
 
 -- granule g, with l the whole list: what is owed goes on, passing over a granule of fewer than 20 bytes
-abbrev pub give : Format → Grant → List ℕ → ℕ → Pen → Given
+abbrev pub give : Format → Grant → List ℕ → ℕ → Cursor → Given
 give fm n l g w =
     pick (eqb (length (w .owes)) 0) (startNext fm n l g w (firstOf (drop (w .at) l)))
     (pick (wide fm g)
@@ -79,19 +79,19 @@ give fm n l g w =
 abbrev pub groupAfter : ℕ → List Cell → Cell → List Cell
 groupAfter g es e = pick (eqb (g % 3) 2) [] (es ++ (e ∷ []))
 
-abbrev pub penAfter : ℕ → Pen → Given → Pen
-penAfter g w v = record { owes = v .owes; at = v .at; group = groupAfter g (w .group) (v .cell) }
+abbrev pub cursorAfter : ℕ → Cursor → Given → Cursor
+cursorAfter g w v = record { owes = v .owes; at = v .at; group = groupAfter g (w .group) (v .cell) }
 
 -- the cells of granules g, g + 1, .., k of them
-unfoldable pub plan : Format → Grant → List ℕ → ℕ → ℕ → Pen → List Cell
+unfoldable pub plan : Format → Grant → List ℕ → ℕ → ℕ → Cursor → List Cell
 plan fm n l zero g w = []
-plan fm n l (suc k) g w = give fm n l g w .cell ∷ plan fm n l k (g + 1) (penAfter g w (give fm n l g w))
+plan fm n l (suc k) g w = give fm n l g w .cell ∷ plan fm n l k (g + 1) (cursorAfter g w (give fm n l g w))
 
 -- the writer behind them
-unfoldable pub penLast : Format → Grant → List ℕ → ℕ → ℕ → Pen → Pen
-penLast fm n l zero g w = w
-penLast fm n l (suc k) g w = penLast fm n l k (g + 1) (penAfter g w (give fm n l g w))
+unfoldable pub cursorLast : Format → Grant → List ℕ → ℕ → ℕ → Cursor → Cursor
+cursorLast fm n l zero g w = w
+cursorLast fm n l (suc k) g w = cursorLast fm n l k (g + 1) (cursorAfter g w (give fm n l g w))
 
 -- the writer at the start of a container: the tail comes first, from G0
-abbrev pub penOf : List ℕ → Pen
-penOf t = record { owes = t; at = 0; group = [] }
+abbrev pub cursorOf : List ℕ → Cursor
+cursorOf t = record { owes = t; at = 0; group = [] }

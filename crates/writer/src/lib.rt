@@ -1,7 +1,7 @@
 // Filling containers from a list of messages, in the one way of document 01.
+mod cursor;
 mod fill;
 mod group;
-mod pen;
 mod writer;
 
 pub use writer::Answer;

@@ -10,9 +10,9 @@ ghost use Rattle.cause.specs.Checks.{firstFault};
 ghost use Rattle.container.specs.Grants.{planeAllowed};
 ghost use Rattle.writer.specs.Filling.{writerOk, opened, callChecks, fillFault, filling, fillBytes};
 ghost use Rattle.writer.specs.Holding.{owedOf};
+use crate::cursor::Cursor;
+use crate::cursor::fill_granules;
 use crate::fill::write_header;
-use crate::pen::Pen;
-use crate::pen::fill_granules;
 use cause::Cause;
 use cause::Verdict;
 use container::Grant;
@@ -70,18 +70,18 @@ fn copy_tail(part: &[u8]) -> [u8; 100]
 }
 
 // What is owed behind a container, with zeros behind.
-fn keep_tail(pen: Pen, tail: &[u8], list: &[u8]) -> [u8; 100]
-    requires { ⌜ (pen .left ≤ 100) × (pen .from ≤ 4300) ⌝ }
-    requires { ⌜ (0 < pen .left → pen .from + pen .left ≤ length (pick (pen .tail) (now tail) (now list))) ⌝ }
-    ensures { λ r. ⌜ r ≡ pad 100 (owedOf (now (tail .entry)) (now (list .entry)) pen) ⌝ }
+fn keep_tail(cursor: Cursor, tail: &[u8], list: &[u8]) -> [u8; 100]
+    requires { ⌜ (cursor .left ≤ 100) × (cursor .from ≤ 4300) ⌝ }
+    requires { ⌜ (0 < cursor .left → cursor .from + cursor .left ≤ length (pick (cursor .tail) (now tail) (now list))) ⌝ }
+    ensures { λ r. ⌜ r ≡ pad 100 (owedOf (now (tail .entry)) (now (list .entry)) cursor) ⌝ }
 {
-    let from = pen.from;
-    let left = pen.left;
+    let from = cursor.from;
+    let left = cursor.left;
     if left == 0 {
         return [0u8; 100];
     }
     let end = from + left;
-    if pen.tail {
+    if cursor.tail {
         return copy_tail(&tail[from..end]);
     }
     copy_tail(&list[from..end])
@@ -175,15 +175,15 @@ impl Writer {
         let format = self.format;
         let tail = self.tail;
         let len = self.len;
-        let pen = fill_granules(format, grant, &tail[0..len], list, container);
-        write_header(container, format, pen.starts, grant);
+        let cursor = fill_granules(format, grant, &tail[0..len], list, container);
+        write_header(container, format, cursor.starts, grant);
         Step {
             writer: Writer {
                 format: format,
-                tail: keep_tail(pen, &tail[0..len], list),
-                len: pen.left,
+                tail: keep_tail(cursor, &tail[0..len], list),
+                len: cursor.left,
             },
-            answer: Answer::Filled { used: pen.at },
+            answer: Answer::Filled { used: cursor.at },
         }
     }
 }

@@ -1,0 +1,152 @@
+-- The audit (document 01, "Pools and the audit" and "Causes and places"): the ledger, its validity, and the audit of an entry.
+use Prim.Native.Nat.{ℕ, zero, suc, _+_, _-_, _*_, _/_, _%_}
+use mathlib.Core.Bool.{Bool, true, false, _&&_, _||_}
+use mathlib.Core.List.{List, [], _∷_, _++_}
+use lib.ListN.{length, getD, replicate}
+use lib.Dec.{eqb, ltb, leb}
+use Rattle.lists.specs.Pick.{pick}
+use Rattle.cause.specs.Checks.{Check, check, firstFault, whenSound}
+use Rattle.cause.specs.declared.Verdict.{Verdict}
+use Rattle.cause.specs.declared.Verdict.the-variants.{Sound, Faulty}
+use Rattle.cause.specs.declared.Cause.the-variants.{InvalidState, ContainerLength, MissingPool, BegunOverGranted, GrantedOverCapacity}
+use Rattle.container.specs.Layout.{formatOf}
+use Rattle.container.specs.Grants.{headerGrant}
+use Rattle.container.specs.declared.grant.Grant.{Grant}
+use Rattle.message.specs.Charges.{charges}
+use Rattle.reader.specs.Cells.{Cell, cells, endings, startings}
+use Rattle.reader.specs.Reading.{readerOk, carried, stateChecks, nextReader}
+use Rattle.reader.specs.declared.reader.Reader.{Reader}
+use Rattle.ledger.specs.Pools.{hasPool, receiverOk, messageChecks, allMessages, allGrants, chargedTo, paidTo, grantedTo, grantsIn}
+use Rattle.ledger.specs.declared.receiver.Receiver.{Receiver}
+use Rattle.ledger.specs.declared.ledger.Ledger.{Ledger}
+use Rattle.ledger.specs.declared.ledger.Answer.{Answer}
+use Rattle.ledger.specs.declared.ledger.Answer.the-variants as answer
+use Rattle.ledger.specs.declared.ledger.Step.{Step}
+
+-- the receiver of direction d, and the reader of its containers
+abbrev pub receiverOf : Ledger → ℕ → Receiver
+receiverOf s d = pick (eqb d 0) (s .receiver0) (s .receiver1)
+
+abbrev pub readerOf : Ledger → ℕ → Reader
+readerOf s d =
+    record { format = s .format; carry = pick (eqb d 0) (s .carry0) (s .carry1); len = pick (eqb d 0) (s .len0) (s .len1) }
+
+-- credits held and messages open, of direction d and pool p
+abbrev pub heldOf : Ledger → ℕ → ℕ → ℕ
+heldOf s d p = getD (s .held) (14 * d + p) 0
+
+abbrev pub openOf : Ledger → ℕ → ℕ → ℕ
+openOf s d p = getD (s .opened) (14 * d + p) 0
+
+-- pool p of direction d: open messages follow from the carry, and held plus open is at most capacity
+abbrev pub poolOk : Ledger → ℕ → ℕ → Bool
+poolOk s d p =
+    eqb (openOf s d p) (chargedTo p (charges (carried (readerOf s d)))) && leb (heldOf s d p + openOf s d p) (getD (receiverOf s d .capacities) p 0)
+
+-- k pools of direction d from p on
+unfoldable pub poolsOk : Ledger → ℕ → ℕ → ℕ → Bool
+poolsOk s d zero p = true
+poolsOk s d (suc k) p = poolOk s d p && poolsOk s d k (p + 1)
+
+-- every check passes
+abbrev pub passes : Verdict → Bool
+passes Sound = true
+passes (Faulty c p) = false
+
+-- direction d of a valid ledger: its configuration, its carry, whose message would pass 14, and its pools
+abbrev pub directionOk : Ledger → ℕ → Bool
+directionOk s d =
+    receiverOk (receiverOf s d)
+    && (readerOk (readerOf s d) && (passes (firstFault (messageChecks (receiverOf s d) (carried (readerOf s d)))) && poolsOk s d 14 0))
+
+abbrev pub ledgerOk : Ledger → Bool
+ledgerOk s = directionOk s 0 && directionOk s 1
+
+-- a grant in a container pays the opposite direction
+abbrev pub opposite : ℕ → ℕ
+opposite d = 1 - d
+
+-- the messages that start and that end in an entry, and the grants of its header and of its CrdtGrants
+abbrev pub cellsOf : Ledger → ℕ → List ℕ → List Cell
+cellsOf s d c = cells (formatOf (s .format)) c 12 0 (carried (readerOf s d))
+
+unfoldable pub begun : Ledger → ℕ → List ℕ → List (List ℕ)
+begun s d c = startings (cellsOf s d c)
+
+unfoldable pub finished : Ledger → ℕ → List ℕ → List (List ℕ)
+finished s d c = endings (formatOf (s .format)) 0 (cellsOf s d c) (carried (readerOf s d))
+
+unfoldable pub granted : Ledger → ℕ → List ℕ → List Grant
+granted s d c = headerGrant (formatOf (s .format)) c ∷ grantsIn (begun s d c)
+
+-- 15: begun over granted, k pools from p on
+unfoldable pub heldChecks : Ledger → ℕ → List (List ℕ) → ℕ → ℕ → List Check
+heldChecks s d ms zero p = []
+heldChecks s d ms (suc k) p = check (leb (paidTo p ms) (heldOf s d p)) BegunOverGranted p ∷ heldChecks s d ms k (p + 1)
+
+-- 16: granted over capacity + finished, k pools from p on
+unfoldable pub roomChecks : Ledger → ℕ → List Grant → ℕ → ℕ → List Check
+roomChecks s d ns zero p = []
+roomChecks s d ns (suc k) p =
+    check (leb (heldOf s d p + (grantedTo p ns + openOf s d p)) (getD (receiverOf s d .capacities) p 0)) GrantedOverCapacity p
+    ∷ roomChecks s d ns k (p + 1)
+
+-- 19, 1; the reader's 3 to 20; 14 by started messages, then by the header's grant and the CrdtGrants; then 15, then 16
+unfoldable pub auditChecks : Ledger → ℕ → List ℕ → List Check
+auditChecks s d c =
+    check (ltb d 2 && ledgerOk s) InvalidState 0
+    ∷ check (eqb (length c) 256) ContainerLength 0
+    ∷ stateChecks (readerOf s d) c
+    ++ (allMessages (receiverOf s d) (begun s d c)
+    ++ (allGrants (receiverOf s (opposite d)) (granted s d c)
+    ++ (heldChecks s d (begun s d c) 14 0 ++ roomChecks s (opposite d) (granted s d c) 14 0)))
+
+-- k numbers from place i on of a table of two directions by fourteen pools
+unfoldable pub table : (ℕ → ℕ → ℕ) → ℕ → ℕ → List ℕ
+table f zero i = []
+table f (suc k) i = f (i / 14) (i % 14) ∷ table f k (i + 1)
+
+-- the numbers of direction e and pool p behind an accepted entry of direction d
+abbrev pub heldAfter : Ledger → ℕ → List ℕ → ℕ → ℕ → ℕ
+heldAfter s d c e p = pick (eqb e d) (heldOf s e p - paidTo p (begun s d c)) (heldOf s e p + grantedTo p (granted s d c))
+
+abbrev pub openAfter : Ledger → ℕ → List ℕ → ℕ → ℕ → ℕ
+openAfter s d c e p = pick (eqb e d) ((openOf s e p + paidTo p (begun s d c)) - paidTo p (finished s d c)) (openOf s e p)
+
+unfoldable pub nextLedger : Ledger → ℕ → List ℕ → Ledger
+nextLedger s d c = record {
+  format = s .format;
+  receiver0 = s .receiver0;
+  receiver1 = s .receiver1;
+  carry0 = pick (eqb d 0) (nextReader (readerOf s d) c .carry) (s .carry0);
+  len0 = pick (eqb d 0) (nextReader (readerOf s d) c .len) (s .len0);
+  carry1 = pick (eqb d 0) (s .carry1) (nextReader (readerOf s d) c .carry);
+  len1 = pick (eqb d 0) (s .len1) (nextReader (readerOf s d) c .len);
+  held = table (heldAfter s d c) 28 0;
+  opened = table (openAfter s d c) 28 0;
+}
+
+abbrev pub answerOf : Verdict → Answer
+answerOf Sound = answer.Accepted
+answerOf (Faulty c p) = answer.Refused c p
+
+-- the audit of an entry: answer and next ledger
+unfoldable pub auditing : Ledger → ℕ → List ℕ → Step
+auditing s d c = record {
+  ledger = whenSound (firstFault (auditChecks s d c)) (nextLedger s d c) s;
+  answer = answerOf (firstFault (auditChecks s d c));
+}
+
+-- a ledger's start: counts zero, nothing carried
+abbrev pub freshLedger : ℕ → Receiver → Receiver → Ledger
+freshLedger f a b = record {
+  format = f;
+  receiver0 = a;
+  receiver1 = b;
+  carry0 = replicate 100 0;
+  len0 = 0;
+  carry1 = replicate 100 0;
+  len1 = 0;
+  held = replicate 28 0;
+  opened = replicate 28 0;
+}
