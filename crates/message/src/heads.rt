@@ -95,24 +95,17 @@ pub fn is_misc(kind: u8, op: u8, wanted: u8) -> bool
     false
 }
 
+// One above the largest value of byte 0 bits 4 to 7, by type.
+const FLAG_BOUNDS: [u8; 11] = [0, 16, 16, 1, 1, 1, 2, 2, 16, 16, 1];
+
 // One above the largest value of byte 0 bits 4 to 7.
 fn bound_flags(kind: u8) -> u8
     ensures { λ r. ⌜ r ≡ flagBound kind ⌝ }
 {
-    match kind {
-        0 => 0,
-        1 => 16,
-        2 => 16,
-        3 => 1,
-        4 => 1,
-        5 => 1,
-        6 => 2,
-        7 => 2,
-        8 => 16,
-        9 => 16,
-        10 => 1,
-        11..=255 => 0,
+    if kind < 11 {
+        return FLAG_BOUNDS[kind as usize];
     }
+    0
 }
 
 // Whether byte 1 keeps the rule of types 8 and 9.

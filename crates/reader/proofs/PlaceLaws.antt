@@ -1,4 +1,4 @@
--- The place of every refusal of a reading is below 12. Assumes nothing.
+-- The place of every refusal of a reading or judging is below 12. Assumes nothing.
 use Prim.Native.Nat.{ℕ, zero, suc, _+_, _≤_, _<_}
 use mathlib.Core.Path.{_≡_, refl, sym, ap, _∙_}
 use mathlib.Core.Bool.{Bool, true, false}
@@ -13,11 +13,12 @@ use Rattle.cause.specs.declared.Verdict.the-variants.{Sound, Faulty}
 use Rattle.container.specs.Layout.{Format, formatOf}
 use Rattle.reader.specs.Cells.{Cell, cells, cellAt, after}
 use Rattle.reader.specs.Checking.{cellChecks, granuleChecks, groupChecks, headerChecks, lastChecks, containerChecks}
-use Rattle.reader.specs.Reading.{carried, entryChecks, stateChecks, readChecks, reading}
+use Rattle.reader.specs.Reading.{carried, entryChecks, stateChecks, readChecks, judgeChecks, reading, judging}
 use Rattle.reader.specs.declared.reader.Reader.{Reader}
 use Rattle.reader.specs.declared.reader.Answer.{Answer}
 use Rattle.reader.specs.declared.reader.Answer.the-variants as answer
-use Rattle.reader.specs.Reading.{answerOf}
+use Rattle.reader.specs.declared.reader.Judgement.the-variants as judgement
+use Rattle.reader.specs.Reading.{answerOf, judgementOf}
 use Rattle.container.specs.declared.grant.Grant.{Grant}
 
 -- the place of each check is below n
@@ -51,28 +52,27 @@ unfolding groupChecks
 groups-below zero q es h = tt
 groups-below (suc k) q es h = let b : q < 12 = omega arith in (b, (b, (b, groups-below k (q + 1) _ (omega arith))))
 
-read-below : (s : Reader) (c : List ℕ) (n : ℕ) → Below 12 (readChecks s c n)
-unfolding readChecks stateChecks containerChecks
-read-below s c n =
+state-below : (s : Reader) (c : List ℕ) → Below 12 (stateChecks s c)
+unfolding stateChecks containerChecks
+state-below s c =
     let fm = formatOf (s .format) in
     let es = cells fm c 12 0 (carried s) in
     let z : 0 < 12 = omega arith in (
       z,
       (
         z,
-        (
-          z,
-          (
-            z,
-            (
-              z,
-              below-append 12 (granuleChecks fm 0 es) (groupChecks 4 0 es ++ lastChecks fm (carried s) c es) (granules-below fm c 12 0 (carried s) (omega arith))
-                  (below-append 12 (groupChecks 4 0 es) (lastChecks fm (carried s) c es) (groups-below 4 0 es (omega arith)) (z, (z, tt))),
-            ),
-          ),
-        ),
+        below-append 12 (granuleChecks fm 0 es) (groupChecks 4 0 es ++ lastChecks fm (carried s) c es) (granules-below fm c 12 0 (carried s) (omega arith))
+            (below-append 12 (groupChecks 4 0 es) (lastChecks fm (carried s) c es) (groups-below 4 0 es (omega arith)) (z, (z, tt))),
       ),
     )
+
+read-below : (s : Reader) (c : List ℕ) (n : ℕ) → Below 12 (readChecks s c n)
+unfolding readChecks
+read-below s c n = let z : 0 < 12 = omega arith in (z, (z, (z, state-below s c)))
+
+judge-below : (s : Reader) (c : List ℕ) → Below 12 (judgeChecks s c)
+unfolding judgeChecks
+judge-below s c = let z : 0 < 12 = omega arith in (z, (z, state-below s c))
 
 -- the place of a refused reading
 pub refused-place : (s : Reader) (c : List ℕ) (n : ℕ) (k : Cause) (p : ℕ) → reading s c n .answer ≡ answer.Refused k p → p < 12
@@ -82,3 +82,12 @@ refused-place s c n k p e = first-below 12 (readChecks s c n) (read-below s c n)
     faulty : (v : Verdict) (l : ℕ) (g : Grant) → answerOf v l g ≡ answer.Refused k p → v ≡ Faulty k p
     faulty Sound l g q = let z : _≡_ {A = ℕ} 0 1 = cc in absurd (omega arith)
     faulty (Faulty a b) l g q = cc
+
+-- the place of a refused judging
+pub judged-place : (s : Reader) (c : List ℕ) (k : Cause) (p : ℕ) → judging s c .judgement ≡ judgement.Refused k p → p < 12
+unfolding judging
+judged-place s c k p e = first-below 12 (judgeChecks s c) (judge-below s c) k p (faulty (firstFault (judgeChecks s c)) _ _ e)
+  where
+    faulty : (v : Verdict) (g : Grant) (w : ℕ) → judgementOf v g w ≡ judgement.Refused k p → v ≡ Faulty k p
+    faulty Sound g w q = let z : _≡_ {A = ℕ} 0 1 = cc in absurd (omega arith)
+    faulty (Faulty a b) g w q = cc

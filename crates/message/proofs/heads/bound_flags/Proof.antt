@@ -1,59 +1,19 @@
 -- `message::heads::bound_flags` meets its contract.
+use mathlib.Core.Path.{sym}
+use lib.ListN.{List·getD-eq-default}
 use Rattle.message.specs.Heads.{flagBounds}
-use Rattle.lists.proofs.Codes.{past}
 use borrow.Author.Needs.{needs}
 use Rattle.message.proofs.heads.bound_flags.Statement.{statement}
 use Rattle.message.proofs.heads.bound_flags.Tie as tie
+
+array-read-result : tie.Need-array-read-result
+array-read-result c = search needs
 
 returns : tie.Need-returns
 returns c = search needs
 
 returns-2 : tie.Need-returns-2
-returns-2 c = search needs
-
-returns-3 : tie.Need-returns-3
-returns-3 c = search needs
-
-returns-4 : tie.Need-returns-4
-returns-4 c = search needs
-
-returns-5 : tie.Need-returns-5
-returns-5 c = search needs
-
-returns-6 : tie.Need-returns-6
-returns-6 c = search needs
-
-returns-7 : tie.Need-returns-7
-returns-7 c = search needs
-
-returns-8 : tie.Need-returns-8
-returns-8 c = search needs
-
-returns-9 : tie.Need-returns-9
-returns-9 c = search needs
-
-returns-10 : tie.Need-returns-10
-returns-10 c = search needs
-
-returns-11 : tie.Need-returns-11
-returns-11 c = search needs
-
-returns-12 : tie.Need-returns-12
-returns-12 c = past flagBounds 0 _ (c .match .rest)
+returns-2 c = sym (List·getD-eq-default flagBounds 0 (c .if1 .left))
 
 pub bound-flags-spec : {M : Type 1} → statement M
-bound-flags-spec =
-    tie.close
-    (tie.spec
-    returns
-    returns-2
-    returns-3
-    returns-4
-    returns-5
-    returns-6
-    returns-7
-    returns-8
-    returns-9
-    returns-10
-    returns-11
-    returns-12)
+bound-flags-spec = tie.close (tie.spec array-read-result returns returns-2)

@@ -1,0 +1,201 @@
+-- The bounds and the outcome of a fill over lent bytes. Assumes nothing.
+use Prim.Native.Nat.{ℕ, zero, suc, _+_, _-_, _*_, _%_, _≤_}
+use mathlib.Core.Path.{_≡_, refl, sym, ap, _∙_, subst}
+use mathlib.Core.Bool.{true, false, _&&_}
+use mathlib.Core.List.{List}
+use native.Mathlib.Omega.{arith}
+use lib.ListN.{length, drop, length-drop, drop-of-length-le}
+use lib.Seq.{length-take-le}
+use lib.Dec.{eqb, ltb, leb}
+use borrow.Author.Tests.{eq-eqb, ne-eqb, leb-true}
+use Rattle.lists.specs.Parts.{put, pad}
+use Rattle.lists.proofs.PartLaws.{append-nil}
+use Rattle.lists.proofs.PickLaws.{pick-by}
+use Rattle.cause.specs.Checks.{firstFault, whenSound, orElse}
+use Rattle.cause.specs.Causes.{causeNumber}
+use Rattle.cause.specs.declared.Cause.{Cause}
+use Rattle.cause.specs.declared.Verdict.{Verdict}
+use Rattle.cause.specs.declared.Verdict.the-variants.{Sound, Faulty}
+use Rattle.cause.proofs.CauseLaws.{number-most}
+use Rattle.cause.proofs.CheckLaws.{sound-pass}
+use Rattle.container.specs.Layout.{formatOf}
+use Rattle.container.specs.Grants.{planeAllowed}
+use Rattle.container.specs.declared.grant.Grant.{Grant}
+use Rattle.record.specs.Records.{firstOf, onward, faultFrom, listFault}
+use Rattle.record.specs.declared.list.First.{First}
+use Rattle.record.specs.declared.list.First.the-variants.{Empty, Bad, Whole}
+use Rattle.record.proofs.RecordLaws.{first-within}
+use Rattle.writer.specs.Laying.{owesAfter, usedOf}
+use Rattle.writer.specs.Filling.{tailOf, writerOk, writerWith, callChecks, fillFault, answerOf, filling, fillBytes}
+use Rattle.writer.specs.Holding.{Sane, cursorAt}
+use Rattle.writer.specs.declared.writer.Writer.{Writer}
+use Rattle.writer.specs.declared.writer.Answer.{Answer}
+use Rattle.writer.specs.declared.writer.Answer.the-variants.{Filled, Refused}
+use Rattle.writer.specs.declared.writer.Step.{Step}
+use Rattle.writer.proofs.StateCases.{Callable, fill-callable}
+use Rattle.writer.proofs.SaneLaws.{sane-at}
+use Rattle.writer.proofs.HoldLaws.{owed-length, held-owes, held-used}
+use Rattle.probe.specs.Fill.{grantFrom, writerFrom, answerCode, Small, sized, asked, fillCode, fillTail, fillContainer}
+
+-- ---- whole lists of one length
+
+pub same-le : (m n : ℕ) → m ≡ n → m ≤ n
+same-le m n e = omega arith
+
+pub pad-whole : (n : ℕ) (x : List ℕ) → length x ≡ n → pad n x ≡ x
+pad-whole n x e = let z : n - length x ≡ 0 = omega arith in rw z (append-nil x)
+
+pub put-whole : (x d : List ℕ) → length x ≡ length d → put 0 x d ≡ x
+put-whole x d e =
+    let h : length d ≤ 0 + length x = omega arith in rw (drop-of-length-le d {i = 0 + length x} h) (append-nil x)
+
+-- ---- the place of a broken record
+
+place-from : (k : ℕ) (l : List ℕ) (at : ℕ) (c : Cause) (p : ℕ) → at ≤ length l → faultFrom k l at ≡ Faulty c p → p ≤ length l
+unfolding faultFrom
+place-from zero l at c p h e = let z : _≡_ {A = ℕ} 0 1 = cc in absurd (omega arith)
+place-from (suc k) l at c p h e = by (firstOf (drop at l)) refl e (λ next b f. place-from k l next c p b f)
+  where
+    by : (r : First) → firstOf (drop at l) ≡ r → onward r at (λ next. faultFrom k l next) ≡ Faulty c p
+        → ((next : ℕ) → next ≤ length l → faultFrom k l next ≡ Faulty c p → p ≤ length l) → p ≤ length l
+    by Empty q v ih = let z : _≡_ {A = ℕ} 0 1 = cc in absurd (omega arith)
+    by Bad q v ih = let ep : at ≡ p = cc in omega arith
+    by (Whole start end) q v ih =
+        let w = first-within (drop at l) start end q in let n = length-drop at l in ih (at + end) (omega arith) v
+
+list-place : (l : List ℕ) (c : Cause) (p : ℕ) → listFault l ≡ Faulty c p → p ≤ length l
+unfolding listFault
+list-place l c p e = place-from (suc (length l)) l 0 c p (omega arith) e
+
+-- ---- the numbers of an answer
+
+-- every check of a call is at place 0
+AtZero : Cause → ℕ → Verdict → Type 0
+AtZero c p v = v ≡ Faulty c p → p ≡ 0
+
+faulty-zero : (c : Cause) (p : ℕ) (k : Cause) → AtZero c p (Faulty k 0)
+unfolding AtZero
+faulty-zero c p k e = let z : 0 ≡ p = cc in sym z
+
+sound-zero : (c : Cause) (p : ℕ) → AtZero c p Sound
+unfolding AtZero
+sound-zero c p e = let z : _≡_ {A = ℕ} 0 1 = cc in absurd (omega arith)
+
+call-zero : (w : Writer) (k : ℕ) (n : Grant) (size : ℕ) (c : Cause) (p : ℕ) → AtZero c p (firstFault (callChecks w k n size))
+unfolding callChecks
+call-zero w k n size c p =
+    pick-by (AtZero c p) (writerOk w)
+    (λ _. pick-by (AtZero c p) (eqb size 256)
+    (λ _. pick-by (AtZero c p) (leb k 4096)
+    (λ _. pick-by (AtZero c p) (ltb (n .rp) 8 && planeAllowed n) (λ _. sound-zero c p) (λ _. faulty-zero c p _))
+    (λ _. faulty-zero c p _))
+    (λ _. faulty-zero c p _))
+    (λ _. faulty-zero c p _)
+
+call-short : (w : Writer) (k : ℕ) (n : Grant) (size : ℕ) → firstFault (callChecks w k n size) ≡ Sound → k ≤ 4096
+unfolding callChecks
+call-short w k n size e = leb-true k 4096 (sound-pass (callChecks w k n size) e .1 .1 .0)
+
+-- the place of a refused fill
+fault-place : (w : Writer) (l : List ℕ) (n : Grant) (size : ℕ) (c : Cause) (p : ℕ) → fillFault w l n size ≡ Faulty c p → p ≤ 4096
+unfolding fillFault AtZero
+fault-place w l n size c p e = by (firstFault (callChecks w (length l) n size)) refl e
+  where
+    by : (v : Verdict) → firstFault (callChecks w (length l) n size) ≡ v → orElse v (listFault l) ≡ Faulty c p → p ≤ 4096
+    by Sound q f =
+        let short = call-short w (length l) n size q in let place = list-place l c p f in omega arith
+    by (Faulty a b) q f = let z : p ≡ 0 = call-zero w (length l) n size c p (q ∙ f) in omega arith
+
+-- an accepted fill: few bytes used, and few owed
+module _ (w : Writer) (l : List ℕ) (n : Grant) (size : ℕ) (long : length (w .tail) ≡ 100) (e : fillFault w l n size ≡ Sound) where
+  can : Callable w l n size
+  can = fill-callable w l n size e
+
+  tail-length : length (tailOf w) ≡ w .len
+  tail-length = length-take-le (w .len) (w .tail) (let h = can .valid .short in omega arith)
+
+  low : length (tailOf w) ≤ 100
+  low = rw tail-length (can .valid .short)
+
+  granules : length (tailOf w) % 20 ≡ 0
+  granules = rw tail-length (can .valid .granules)
+
+  sane : Sane (tailOf w) l 12 (cursorAt (formatOf (w .format)) n (tailOf w) l 12)
+  sane = sane-at (w .format) n (tailOf w) l low granules (can .short) 12 (omega arith)
+
+  used-low : usedOf (formatOf (w .format)) n (tailOf w) l ≤ 4096
+  used-low =
+      let h = sane .used in
+      let short = can .short in
+      rw (held-used (w .format) n (tailOf w) l low granules (can .short)) (omega arith)
+
+  owes-low : length (owesAfter (formatOf (w .format)) n (tailOf w) l) ≤ 100
+  owes-low =
+      rw (held-owes (w .format) n (tailOf w) l low granules (can .short), owed-length (tailOf w) l 12 (cursorAt (formatOf (w .format)) n (tailOf w) l 12) sane) (sane .most)
+
+-- the numbers of an answer are small
+module _ (w : Writer) (l : List ℕ) (n : Grant) (size : ℕ) (long : length (w .tail) ≡ 100) where
+  small-by : (v : Verdict) → fillFault w l n size ≡ v
+      → Small (answerOf v (usedOf (formatOf (w .format)) n (tailOf w) l)) (whenSound v (writerWith (w .format) (owesAfter (formatOf (w .format)) n (tailOf w) l)) w .len)
+  small-by Sound e = (used-low w l n size long e, owes-low w l n size long e)
+  small-by (Faulty c p) e = fault-place w l n size c p e
+
+  fill-small : Small (filling w l n size .answer) (filling w l n size .writer .len)
+  unfolding filling
+  fill-small = small-by (fillFault w l n size) refl
+
+  pub step-small : (s : Step) → s ≡ filling w l n size → Small (s .answer) (s .writer .len)
+  step-small s e = subst (λ (x : Step). Small (x .answer) (x .writer .len)) (sym e) fill-small
+
+-- what that says of an answer that is told
+pub filled-small : (a : Answer) (u n : ℕ) → a ≡ Filled u → Small a n → (u ≤ 4096) × (n ≤ 100)
+filled-small a u n e h = subst (λ (x : Answer). Small x n) e h
+
+pub refused-small : (a : Answer) (k : Cause) (p n x : ℕ) → a ≡ Refused k p → Small a n → x ≡ causeNumber k → (p ≤ 4096) × (x ≤ 20)
+refused-small a k p n x e h ex = let m = number-most k in (subst (λ (y : Answer). Small y n) e h, omega arith)
+
+-- ---- the outcome of a call
+
+module _ (f n : ℕ) (t b l : List ℕ) where
+  module _ (d : sized t b ≡ false) where
+    pub code-unsized : (size : ℕ) → 19 * 4_294_967_296 ≡ fillCode f n t b l size
+    unfolding fillCode
+    code-unsized size = rw d
+
+    pub tail-unsized : (size : ℕ) → t ≡ fillTail f n t b l size
+    unfolding fillTail
+    tail-unsized size = rw d
+
+    pub container-unsized : (c : List ℕ) → c ≡ fillContainer f n t b l c
+    unfolding fillContainer
+    container-unsized c = rw d
+
+  module _ (d : sized t b ≡ true) (a : List ℕ) (ea : a ≡ t) (g : Grant) (eg : g ≡ grantFrom b) where
+    pub container-sized : (c x : List ℕ) → x ≡ fillBytes (writerFrom f n a) l g c → x ≡ fillContainer f n t b l c
+    unfolding fillContainer
+    container-sized c x e =
+        e ∙ ap (λ (y : List ℕ). fillBytes (writerFrom f n y) l g c) ea ∙ ap (λ (y : Grant). fillBytes (writerFrom f n t) l y c) eg ∙ rw d
+
+    module _ (size : ℕ) (s : Step) (es : s ≡ filling (writerFrom f n a) l g size) where
+      same : s ≡ asked f n t b l size
+      same =
+          es ∙ ap (λ (y : List ℕ). filling (writerFrom f n y) l g size) ea ∙ ap (λ (y : Grant). filling (writerFrom f n t) l y size) eg
+
+      pub code-sized : (x : ℕ) → x ≡ answerCode (s .answer) (s .writer .len) → x ≡ fillCode f n t b l size
+      unfolding fillCode
+      code-sized x e = e ∙ ap (λ (y : Step). answerCode (y .answer) (y .writer .len)) same ∙ rw d
+
+      pub tail-sized : (x : List ℕ) → x ≡ s .writer .tail → x ≡ fillTail f n t b l size
+      unfolding fillTail
+      tail-sized x e = e ∙ ap (λ (y : Step). y .writer .tail) same ∙ rw d
+
+-- the sizes of a call
+module _ (t b : List ℕ) where
+  pub other-tail : (length t ≡ 100 → ⊥) → sized t b ≡ false
+  other-tail d = rw (ne-eqb (length t) 100 d)
+
+  pub other-grant : length t ≡ 100 → (length b ≡ 6 → ⊥) → sized t b ≡ false
+  other-grant e d = rw (eq-eqb (length t) 100 e, ne-eqb (length b) 6 d)
+
+  pub right-sizes : length t ≡ 100 → length b ≡ 6 → sized t b ≡ true
+  right-sizes e d = rw (eq-eqb (length t) 100 e, eq-eqb (length b) 6 d)

@@ -1,0 +1,102 @@
+-- `probe::c2c_fill` meets its contract.
+use mathlib.Core.Path.{ap, _∙_}
+use lib.ListN.{length}
+use Rattle.probe.specs.Fill.{writerFrom}
+use Rattle.probe.proofs.FillLaws.{step-small, code-unsized, tail-unsized, container-unsized, code-sized, tail-sized, container-sized, other-tail, other-grant, right-sizes}
+use borrow.Author.Needs.{needs}
+use Rattle.probe.proofs.c2c_fill.Statement.{statement}
+use Rattle.probe.proofs.c2c_fill.Tie as tie
+
+mul-result : tie.Need-mul-result
+mul-result c = search needs
+
+returns : tie.Need-returns
+returns c =
+    let start = c .before .before .before .before .before in
+    let t = start .args .tail .now in
+    let b = start .args .grant .now in
+    let l = start .args .list .now in
+    let d = other-tail t b (c .if1 .taken) in (
+      code-unsized (start .args .format) (start .args .len) t b l d _,
+      (tail-unsized (start .args .format) (start .args .len) t b l d _, container-unsized (start .args .format) (start .args .len) t b l d _),
+    )
+
+mul-result-2 : tie.Need-mul-result-2
+mul-result-2 c = search needs
+
+returns-2 : tie.Need-returns-2
+returns-2 c =
+    let start = c .before .before .before .before .before .before in
+    let t = start .args .tail .now in
+    let b = start .args .grant .now in
+    let l = start .args .list .now in
+    let d = other-grant t b (c .before .if1 .left) (c .if2 .taken) in (
+      code-unsized (start .args .format) (start .args .len) t b l d _,
+      (tail-unsized (start .args .format) (start .args .len) t b l d _, container-unsized (start .args .format) (start .args .len) t b l d _),
+    )
+
+load-tail-requires : tie.Need-load-tail-requires
+load-tail-requires c κs = search needs
+
+load-grant-requires : tie.Need-load-grant-requires
+load-grant-requires c κs = search needs
+
+fill-requires : tie.Need-fill-requires
+fill-requires c κs = search needs
+
+store-tail-requires : tie.Need-store-tail-requires
+store-tail-requires c κs = search needs
+
+encode-answer-requires : tie.Need-encode-answer-requires
+encode-answer-requires c κs =
+    let start = c .before .before .before .before .before .before .before .before .before .before .before .before .before .before .before .before .before .before .before in
+    let t = start .args .tail .now in
+    let b = start .args .grant .now in
+    let l = start .args .list .now in
+    let d = start .args .container .now in
+    let loaded = c .before .before .before .before .before .before .before .before .before .before .before .load-tail in
+    let granted = c .before .before .before .before .before .before .before .before .before .before .load-grant in
+    let filled = c .before .before .before .before .before .before .before .before .fill in
+    let long = ap length (loaded .ensures) ∙ c .before .before .before .before .before .before .before .before .before .before .before .before .before .before .if1 .left in
+    step-small (writerFrom (start .args .format) (start .args .len) (loaded .result)) l (granted .result) (length d) long (filled .result) (filled .ensures .0)
+
+same-length : tie.Need-same-length
+same-length c = search needs
+
+same-length-2 : tie.Need-same-length-2
+same-length-2 c = search needs
+
+returns-3 : tie.Need-returns-3
+returns-3 c =
+    let start = c .before .before .before .before .before .before .before .before .before .before .before .before .before .before .before .before .before .before .before .before in
+    let t = start .args .tail .now in
+    let b = start .args .grant .now in
+    let l = start .args .list .now in
+    let d = start .args .container .now in
+    let loaded = c .before .before .before .before .before .before .before .before .before .before .before .before .load-tail in
+    let granted = c .before .before .before .before .before .before .before .before .before .before .before .load-grant in
+    let filled = c .before .before .before .before .before .before .before .before .before .fill in
+    let right = right-sizes t b (c .before .before .before .before .before .before .before .before .before .before .before .before .before .before .before .if1 .left) (c .before .before .before .before .before .before .before .before .before .before .before .before .before .before .if2 .left) in (
+      code-sized (start .args .format) (start .args .len) t b l right (loaded .result) (loaded .ensures) (granted .result) (granted .ensures) (length d) (filled .result) (filled .ensures .0) _ (c .encode-answer .ensures),
+      (
+        tail-sized (start .args .format) (start .args .len) t b l right (loaded .result) (loaded .ensures) (granted .result) (granted .ensures) (length d) (filled .result) (filled .ensures .0) _ (c .before .before .before .store-tail .ensures),
+        container-sized (start .args .format) (start .args .len) t b l right (loaded .result) (loaded .ensures) (granted .result) (granted .ensures) d _ (filled .ensures .1),
+      ),
+    )
+
+pub c2c-fill-spec : {M : Type 1} → statement M
+c2c-fill-spec =
+    tie.close
+    (tie.spec
+    mul-result
+    returns
+    mul-result-2
+    returns-2
+    load-tail-requires
+    load-grant-requires
+    fill-requires
+    store-tail-requires
+    encode-answer-requires
+    same-length
+    same-length-2
+    returns-3)
