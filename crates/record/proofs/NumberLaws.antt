@@ -7,7 +7,7 @@ use mathlib.Core.Logic.{_⊎_, inl, inr, ⊎-elim}
 use native.Mathlib.Omega.{arith}
 use native.Mathlib.Nat.{pow-suc, not-suc-le-zero}
 use native.Mathlib.Numerals.{add-one, sub-one}
-use lib.ListN.{length, getD, drop}
+use lib.ListN.{length, getD, drop, length-append}
 use lib.Dec.{eqb, ltb, leb}
 use borrow.Author.Tests.{lt-ltb, le-ltb, ltb-true, ltb-false, le-leb, leb-true, eqb-true, eqb-false, ne-eqb}
 use Rattle.lists.specs.Pick.{pick}
@@ -149,6 +149,17 @@ groups-stand (suc k) (b ∷ l) h n u e = ⊎-elim one (several (groups-stand k l
 pub read-written : (l : List ℕ) → IsBytes l → (n u : ℕ) → readNumber l ≡ Value n u → Stands 5 l n u
 unfolding readNumber
 read-written l h n u e = groups-stand 5 l h n u e
+
+-- a number lies inside the list that it is read from
+pub number-inside : (l : List ℕ) → IsBytes l → (n u : ℕ) → readNumber l ≡ Value n u → (u ≤ length l) × (u ≤ 5)
+unfolding readNumber
+number-inside l h n u e =
+    let s = groups-stand 5 l h n u e in
+    let b = s .bytes in
+    let f : length l ≡ length (groups 5 n) + length (drop u l) = ap length (s .front) ∙ length-append (groups 5 n) (drop u l) in
+    let few : usedOf (readGroups 5 l) ≤ 5 = used-groups 5 l in
+    let v : usedOf (readGroups 5 l) ≡ u = ap usedOf e in
+    (omega arith, omega arith)
 
 -- ---- what is broken, by each reason
 
