@@ -38,10 +38,10 @@ pub fn fill_granule(container: &mut [u8], format: u32, g: u8, src: &[u8])
 pub fn clear_container(container: &mut [u8])
     ensures { λ _. ⌜ now (container .exit) ≡ replicate (length (now (container .entry))) 0 ⌝ }
 {
-    let mut i = 0;
-    while i < container.len() {
-        container[i] = 0;
-        i += 1;
+    let mut at = 0;
+    while at < container.len() {
+        container[at] = 0;
+        at += 1;
     }
 }
 

@@ -7,10 +7,10 @@ use Rattle.writer.proofs.fill.clear_container.Statement.{statement}
 use Rattle.writer.proofs.fill.clear_container.Tie as tie
 
 abbrev Inv-loop : tie.InvT-loop
-Inv-loop container₀ i₀ container i = Copied (replicate (length container₀) 0) container₀ container i
+Inv-loop container₀ at₀ container at = Copied (replicate (length container₀) 0) container₀ container at
 
 abbrev μ-loop : tie.MeasureT-loop
-μ-loop container₀ i₀ container i = length container₀ - i
+μ-loop container₀ at₀ container at = length container₀ - at
 
 loop-holds : tie.Need-loop-holds Inv-loop μ-loop
 loop-holds c = copied-none _ _
@@ -18,8 +18,8 @@ loop-holds c = copied-none _ _
 slice-write-container : tie.Need-slice-write-container Inv-loop μ-loop
 slice-write-container c = search needs
 
-add-i : tie.Need-add-i Inv-loop μ-loop
-add-i c = search needs
+add-at : tie.Need-add-at Inv-loop μ-loop
+add-at c = search needs
 
 loop-less : tie.Need-loop-less Inv-loop μ-loop
 loop-less c = search needs
@@ -41,7 +41,7 @@ clear-container-spec =
     μ-loop
     loop-holds
     slice-write-container
-    add-i
+    add-at
     loop-less
     loop-again
     same-length
