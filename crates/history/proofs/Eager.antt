@@ -1,0 +1,194 @@
+-- Entries that keep the books are the tap record of a history: the eager one, in which each container leaves, passes and arrives at once
+-- and every slot is freed as soon as its message has arrived. Assumes nothing but the laws of the link.
+use Prim.Native.Nat.{ℕ, zero, suc, _+_, _-_, _≤_, _<_}
+use native.Mathlib.Nat.{le-refl}
+use native.Mathlib.Decide.{decLe}
+use native.Mathlib.Omega.{arith}
+use mathlib.Core.Path.{_≡_, refl, sym, _∙_, ap}
+use mathlib.Core.Bool.{true}
+use borrow.Author.Tests.{eq-eqb}
+use Rattle.history.specs.Trace.{Trace, start, _▷_, _⊑_, whole}
+use Rattle.history.specs.Link.{Direction, direction0, direction1, opposite, Link, Lawful}
+use Rattle.history.specs.History.{Event, leaves, passes, arrives, frees, Entry, appendIf, left, passed, arrived, freed, tapRecord, stateAfter, total, ungranted, heldAtSender, buffered, Enabled, History, Tapped}
+use Rattle.history.specs.Books.{containersOf, Books}
+use Rattle.history.proofs.Order.{freed-by, append-one-direction, append-own}
+use Rattle.history.proofs.Sound.{containers-passed}
+use Rattle.history.proofs.OneMore.{WithinWith, within-with}
+
+opposite-differs : (e : Direction) → opposite e ≡ e → ⊥
+opposite-differs direction0 q = let z : _≡_ {A = ℕ} 0 1 = cc in omega arith
+opposite-differs direction1 q = let z : _≡_ {A = ℕ} 0 1 = cc in omega arith
+
+module _ {E : Type 0} where
+  -- h, and then k times the event x
+  abbrev pub repeat : ℕ → E → Trace E → Trace E
+  repeat zero x h = h
+  repeat (suc k) x h = repeat k x h ▷ x
+
+  -- h, and then k p times the event x p, for each p below n
+  abbrev pub repeatEach : (ℕ → E) → (ℕ → ℕ) → ℕ → Trace E → Trace E
+  repeatEach x k zero h = h
+  repeatEach x k (suc n) h = repeat (k n) (x n) (repeatEach x k n h)
+
+  -- what no such event changes is as it was
+  pub repeat-keeps : {B : Type 0} (F : Trace E → B) (x : E) → ((h : Trace E) → F (h ▷ x) ≡ F h) → (k : ℕ) (h : Trace E)
+      → F (repeat k x h) ≡ F h
+  repeat-keeps F x s zero h = refl
+  repeat-keeps F x s (suc k) h = s (repeat k x h) ∙ repeat-keeps F x s k h
+
+  pub each-keeps : {B : Type 0} (F : Trace E → B) (x : ℕ → E) → ((q : ℕ) (h : Trace E) → F (h ▷ x q) ≡ F h)
+      → (k : ℕ → ℕ) (n : ℕ) (h : Trace E) → F (repeatEach x k n h) ≡ F h
+  each-keeps F x s k zero h = refl
+  each-keeps F x s k (suc n) h = repeat-keeps F (x n) (s n) (k n) (repeatEach x k n h) ∙ each-keeps F x s k n h
+
+module _ {A : Type 0} where
+  -- a freed slot counts in its own pool, and in no other
+  freed-own : (e : Direction) (q : ℕ) (h : Trace (Event A)) → freed e q (h ▷ frees e q) ≡ freed e q h + 1
+  freed-own direction0 q h = rw (eq-eqb q q refl)
+  freed-own direction1 q h = rw (eq-eqb q q refl)
+
+  freed-elsewhere : (d e : Direction) (p q : ℕ) → (d ≡ e → p ≡ q → ⊥) → (h : Trace (Event A)) → freed d p (h ▷ frees e q) ≡ freed d p h
+  freed-elsewhere d e p q n h = freed-by (λ m. m ≡ freed d p h) (freed d p h) d e p q refl (λ a b. absurd (n a b))
+
+  repeat-freed : (e : Direction) (q k : ℕ) (h : Trace (Event A)) → freed e q (repeat k (frees e q) h) ≡ freed e q h + k
+  repeat-freed e q zero h = omega arith
+  repeat-freed e q (suc k) h = let i = repeat-freed e q k h in let j = freed-own e q (repeat k (frees e q) h) in omega arith
+
+  past-freed : (e : Direction) (k : ℕ → ℕ) (n p : ℕ) (h : Trace (Event A)) → n ≤ p → freed e p (repeatEach (frees e) k n h) ≡ freed e p h
+  past-freed e k zero p h z = refl
+  past-freed e k (suc n) p h z =
+      repeat-keeps (freed e p) (frees e n) (freed-elsewhere e e p n (λ _ q. omega arith)) (k n) (repeatEach (frees e) k n h)
+      ∙ past-freed e k n p h (omega arith)
+
+  each-freed : (e : Direction) (k : ℕ → ℕ) (n p : ℕ) (h : Trace (Event A)) → p < n
+      → freed e p (repeatEach (frees e) k n h) ≡ freed e p h + k p
+  each-freed e k zero p h z = omega arith
+  each-freed e k (suc n) p h z = go (λ y. each-freed e k n p h y) (decLe n p)
+    where
+      go : (p < n → freed e p (repeatEach (frees e) k n h) ≡ freed e p h + k p) → Dec (n ≤ p)
+          → freed e p (repeatEach (frees e) k (suc n) h) ≡ freed e p h + k p
+      go below (yes a) =
+          let pn : p ≡ n = omega arith in
+          let i = repeat-freed e n (k n) (repeatEach (frees e) k n h) in
+          let j = past-freed e k n n h (le-refl n) in
+          rw pn (omega arith)
+      go below (no a) =
+          repeat-keeps (freed e p) (frees e n) (freed-elsewhere e e p n (λ _ q. omega arith)) (k n) (repeatEach (frees e) k n h)
+          ∙ below (omega arith)
+
+module _ (K : Link) where
+  open Link K using (Container, reads, grants, begins, finishes, capacity, pools)
+
+  -- as many slots may be freed as messages have arrived
+  repeat-history : (e : Direction) (q k : ℕ) (h : Trace (Event Container)) → History K h → freed e q h + k ≤ total K finishes e (arrived e h) q
+      → History K (repeat k (frees e q) h)
+  unfolding buffered
+  repeat-history e q zero h v z = v
+  repeat-history e q (suc k) h v z = (
+    repeat-history e q k h v (omega arith),
+    (let i = repeat-freed e q k h in
+        let j = repeat-keeps (λ h. total K finishes e (arrived e h) q) (frees e q) (λ h. refl) k h in
+        omega arith),
+  )
+
+  each-history : (e : Direction) (k : ℕ → ℕ) (n : ℕ) (h : Trace (Event Container)) → History K h
+      → ((p : ℕ) → freed e p h + k p ≤ total K finishes e (arrived e h) p) → History K (repeatEach (frees e) k n h)
+  each-history e k zero h v z = v
+  each-history e k (suc n) h v z =
+      repeat-history e n (k n) (repeatEach (frees e) k n h) (each-history e k n h v z)
+      (let i = past-freed e k n n h (le-refl n) in
+      let j = each-keeps (λ h. total K finishes e (arrived e h) n) (frees e) (λ q h. refl) k n h in
+      let y = z n in
+      omega arith)
+
+  -- h, and then a container that leaves, passes and arrives at once
+  abbrev pub cross : Direction → Container → Trace (Event Container) → Trace (Event Container)
+  cross e c h = h ▷ leaves e c ▷ passes e c ▷ arrives e c
+
+  -- the messages that end in a container behind the entries t, by pool
+  abbrev pub ended : Direction → Trace (Entry Container) → Container → ℕ → ℕ
+  ended e t c = finishes e (stateAfter K e (containersOf e t)) c
+
+  -- the eager history of a tap record
+  abbrev pub eager : Trace (Entry Container) → Trace (Event Container)
+  eager start = start
+  eager (t ▷ x) = repeatEach (frees (x .direction)) (ended (x .direction) t (x .container)) pools (cross (x .direction) (x .container) (eager t))
+
+  pub eager-left : (d : Direction) (t : Trace (Entry Container)) → left d (eager t) ≡ containersOf d t
+  eager-left d start = refl
+  eager-left d (t ▷ x) =
+      each-keeps (left d) (frees (x .direction)) (λ q h. refl) _ pools _ ∙ ap (appendIf d (x .direction) (x .container)) (eager-left d t)
+
+  pub eager-arrived : (d : Direction) (t : Trace (Entry Container)) → arrived d (eager t) ≡ containersOf d t
+  eager-arrived d start = refl
+  eager-arrived d (t ▷ x) =
+      each-keeps (arrived d) (frees (x .direction)) (λ q h. refl) _ pools _ ∙ ap (appendIf d (x .direction) (x .container)) (eager-arrived d t)
+
+  pub eager-tap : (t : Trace (Entry Container)) → tapRecord (eager t) ≡ t
+  eager-tap start = refl
+  eager-tap (t ▷ x) = each-keeps tapRecord (frees (x .direction)) (λ q h. refl) _ pools _ ∙ ap (λ r. r ▷ x) (eager-tap t)
+
+  eager-passed : (d : Direction) (t : Trace (Entry Container)) → passed d (eager t) ≡ containersOf d t
+  eager-passed d t = sym (containers-passed d (eager t)) ∙ ap (containersOf d) (eager-tap t)
+
+  ungranted-opposite : (e : Direction) (p : ℕ) (h : Trace (Event Container))
+      → ungranted K (opposite e) p h ≡ (capacity (opposite e) p + freed (opposite e) p h) - total K grants e (left e h) p
+  unfolding ungranted
+  ungranted-opposite direction0 p h = refl
+  ungranted-opposite direction1 p h = refl
+
+  cross-order : (e : Direction) (c : Container) (t : Trace (Entry Container))
+      → (passed e (eager t ▷ leaves e c) ▷ c ⊑ left e (eager t ▷ leaves e c))
+      × (arrived e (eager t ▷ leaves e c ▷ passes e c) ▷ c ⊑ passed e (eager t ▷ leaves e c ▷ passes e c))
+  cross-order e c t = (
+    rw (append-own e c (left e (eager t)), eager-left e t, eager-passed e t) (whole refl),
+    rw (append-own e c (passed e (eager t)), eager-passed e t, eager-arrived e t) (whole refl),
+  )
+
+  module _ (L : Lawful K) where
+    ended-freed : (e : Direction) (c : Container) (t : Trace (Entry Container)) (p : ℕ) (h : Trace (Event Container))
+        → freed e p (repeatEach (frees e) (ended e t c) pools h) ≡ freed e p h + ended e t c p
+    ended-freed e c t p h = go (decLe pools p)
+      where
+        go : Dec (pools ≤ p) → freed e p (repeatEach (frees e) (ended e t c) pools h) ≡ freed e p h + ended e t c p
+        go (yes a) =
+            let i = past-freed e (ended e t c) pools p h a in
+            let z = L .no-finish e (stateAfter K e (containersOf e t)) c p a in
+            omega arith
+        go (no a) = each-freed e (ended e t c) pools p h (omega arith)
+
+    eager-freed : (d : Direction) (p : ℕ) (t : Trace (Entry Container)) → freed d p (eager t) ≡ total K finishes d (containersOf d t) p
+    eager-freed d p start = refl
+    eager-freed d p (t ▷ x) =
+        let e = x .direction in
+        let c = x .container in
+        append-one-direction
+        (λ d l. freed d p (eager (t ▷ x)) ≡ total K finishes d l p)
+        (λ d. containersOf d t)
+        e
+        c
+        (let i = ended-freed e c t p (cross e c (eager t)) in let j = eager-freed e p t in omega arith)
+        (each-keeps (freed (opposite e) p) (frees e) (λ q. freed-elsewhere (opposite e) e p q (λ a _. opposite-differs e a)) _ pools _
+        ∙ eager-freed (opposite e) p t)
+        d
+
+    eager-enabled : (e : Direction) (c : Container) (t : Trace (Entry Container)) → reads e (stateAfter K e (containersOf e t)) c ≡ true
+        → ((p : ℕ) → WithinWith K t c e p) → Enabled K (eager t) (leaves e c)
+    unfolding heldAtSender
+    eager-enabled e c t r n = (
+      rw (eager-left e t) r,
+      (λ p. let i = n p in let f = eager-freed (opposite e) p t in rw (ungranted-opposite e p, eager-left e t) (omega arith)),
+      (λ p. let i = n p in rw (eager-left e t, eager-arrived (opposite e) t) (omega arith)),
+    )
+
+    pub eager-history : (t : Trace (Entry Container)) → Books K t → History K (eager t)
+    eager-history start b = tt
+    eager-history (t ▷ x) b =
+        let e = x .direction in
+        let c = x .container in
+        each-history e (ended e t c) pools (cross e c (eager t))
+        (((eager-history t (b .0), eager-enabled e c t (b .1) (within-with K t c e (b .2))), cross-order e c t .0), cross-order e c t .1)
+        (λ p. let f = eager-freed e p t in rw (append-own e c (arrived e (eager t)), eager-arrived e t) (omega arith))
+
+    pub tap-complete : (t : Trace (Entry Container)) → Books K t → Tapped K t
+    tap-complete t b = (eager t, eager-history t b, eager-tap t)

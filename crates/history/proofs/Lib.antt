@@ -1,0 +1,11 @@
+pub mod Order
+pub mod Conservation
+pub mod Turns
+pub mod OneMore
+pub mod Sound
+pub mod Eager
+pub mod Calls
+pub mod Below
+pub mod Ledger
+pub mod Demand
+pub mod Example
