@@ -10,7 +10,7 @@ use Rattle.history.specs.Trace.{Trace, start, _▷_}
 use Rattle.history.specs.Link.{Direction, direction0, direction1, opposite, Link, Lawful}
 use Rattle.history.specs.History.{Entry, stateAfter, total}
 use Rattle.history.specs.Books.{containersOf, granted, begun, finished, Within, Books}
-use Rattle.history.specs.Audit.{fitsBelow, Ledger, directionOk, ledgerOk, entryOk, enter}
+use Rattle.history.specs.Audit.{fitsBelow, Ledger, directionOk, ledgerOk, creditsPaid, slotsTaken, entryOk, enter}
 use Rattle.history.proofs.Below.{below-fits, fits-below, equal-below}
 use Rattle.history.proofs.Order.{append-one-direction}
 use Rattle.history.proofs.Conservation.{Readable, state-valid, begun-or-carried}
@@ -41,59 +41,62 @@ module _ (K : Link) where
   granted-opposite direction1 p t = refl
 
   module _ (L : Lawful K) (t : Trace (Entry Container)) (l : Ledger K) (a : Agrees t l) where
-    entry-sound : (d : Direction) (c : Container) → entryOk K l d c ≡ true
-        → (reads d (stateAfter K d (containersOf d t)) c ≡ true) × ((p : ℕ) → WithinWith K t c d p)
+    -- the container's numbers in the ledger's state and in the state behind the entries
+    same-begins : (c : Container) (d : Direction) (p : ℕ) → begins d (l .states d) c p ≡ begins d (stateAfter K d (containersOf d t)) c p
+    same-begins c d p = ap (λ s. begins d s c p) (a .state-is d)
+
+    same-grants : (c : Container) (d : Direction) (p : ℕ) → grants d (l .states d) c p ≡ grants d (stateAfter K d (containersOf d t)) c p
+    same-grants c d p = ap (λ s. grants d s c p) (a .state-is d)
+
+    same-finishes : (c : Container) (d : Direction) (p : ℕ) → finishes d (l .states d) c p ≡ finishes d (stateAfter K d (containersOf d t)) c p
+    same-finishes c d p = ap (λ s. finishes d s c p) (a .state-is d)
+
+    entry-sound : (d : Direction) (c : Container) → entryOk K l d c ≡ true → (reads d (l .states d) c ≡ true) × ((p : ℕ) → WithinWith K t c d p)
     entry-sound d c h =
-        rw (← a .state-is d)
-        (let r = and-right (reads d (l .states d) c) _ h in
-        let x = and-left (fitsBelow pools (begins d (l .states d) c) (l .held d)) _ r in
-        let y = and-right (fitsBelow pools (begins d (l .states d) c) (l .held d)) _ r in
-        (and-left (reads d (l .states d) c) _ h, λ p. go x y p (decLe pools p)))
+        let r = and-right (reads d (l .states d) c) _ h in
+        let x = and-left (fitsBelow pools (creditsPaid K l d c) (l .held d)) _ r in
+        let y = and-right (fitsBelow pools (creditsPaid K l d c) (l .held d)) _ r in
+        (and-left (reads d (l .states d) c) _ h, λ p. go x y p (decLe pools p))
       where
-        go : fitsBelow pools (begins d (l .states d) c) (l .held d) ≡ true
-            → fitsBelow pools (λ p. l .held (opposite d) p + l .unfinished (opposite d) p + grants d (l .states d) c p) (capacity (opposite d)) ≡ true
-            → (p : ℕ) → Dec (pools ≤ p)
-            → (total K begins d (containersOf d t) p + begins d (l .states d) c p ≤ total K grants (opposite d) (containersOf (opposite d) t) p)
-            × (total K grants d (containersOf d t) p + grants d (l .states d) c p
-            ≤ capacity (opposite d) p + total K finishes (opposite d) (containersOf (opposite d) t) p)
+        go : fitsBelow pools (creditsPaid K l d c) (l .held d) ≡ true → fitsBelow pools (slotsTaken K l d c) (capacity (opposite d)) ≡ true
+            → (p : ℕ) → Dec (pools ≤ p) → WithinWith K t c d p
         go x y p (yes q) =
             let w = books-within t (a .books) d p in
             let w′ = books-within t (a .books) (opposite d) p in
-            let z = L .no-begin d (l .states d) c p q in
-            let z′ = L .no-grant d (l .states d) c p q in
+            let z = L .no-begin d (stateAfter K d (containersOf d t)) c p q in
+            let z′ = L .no-grant d (stateAfter K d (containersOf d t)) c p q in
             let g = granted-opposite d p t in
             omega arith
         go x y p (no q) =
-            let i = below-fits pools (begins d (l .states d) c) (l .held d) x p (omega arith) in
-            let j =
-            below-fits pools (λ p. l .held (opposite d) p + l .unfinished (opposite d) p + grants d (l .states d) c p) (capacity (opposite d))
-            y p (omega arith) in
+            let i = below-fits pools (creditsPaid K l d c) (l .held d) x p (omega arith) in
+            let j = below-fits pools (slotsTaken K l d c) (capacity (opposite d)) y p (omega arith) in
             let k = a .held-is d p in
             let k′ = a .held-is (opposite d) p in
             let u = a .unfinished-is (opposite d) p in
             let g = granted-opposite d p t in
+            let m = same-begins c d p in
+            let m′ = same-grants c d p in
             omega arith
 
-    entry-complete : (d : Direction) (c : Container) → reads d (stateAfter K d (containersOf d t)) c ≡ true → ((p : ℕ) → WithinWith K t c d p)
-        → entryOk K l d c ≡ true
+    entry-complete : (d : Direction) (c : Container) → reads d (l .states d) c ≡ true → ((p : ℕ) → WithinWith K t c d p) → entryOk K l d c ≡ true
     entry-complete d c r n =
-        let s = stateAfter K d (containersOf d t) in
-        rw (a .state-is d)
-        (and-both (reads d s c) _ r
-        (and-both (fitsBelow pools (begins d s c) (l .held d)) _
-        (fits-below pools (begins d s c) (l .held d) (λ p z. let i = n p in let j = a .held-is d p in omega arith))
-        (fits-below pools (λ p. l .held (opposite d) p + l .unfinished (opposite d) p + grants d s c p) (capacity (opposite d))
+        and-both (reads d (l .states d) c) _ r
+        (and-both (fitsBelow pools (creditsPaid K l d c) (l .held d)) _
+        (fits-below pools (creditsPaid K l d c) (l .held d)
+        (λ p z. let i = n p in let j = a .held-is d p in let m = same-begins c d p in omega arith))
+        (fits-below pools (slotsTaken K l d c) (capacity (opposite d))
         (λ p z. let i = n p in
         let j = a .held-is (opposite d) p in
         let k = a .unfinished-is (opposite d) p in
         let g = granted-opposite d p t in
-        omega arith))))
+        let m = same-grants c d p in
+        omega arith)))
 
     -- the test of an entry passes exactly when the entries with it keep the books
     pub entry-exactly : (d : Direction) (c : Container) → entryOk K l d c ≡ true ↔ Books K (t ▷ record { direction = d; container = c })
     entry-exactly d c = (
-      λ h. let s = entry-sound d c h in (a .books, s .0, with-within K t c d (books-within t (a .books)) (s .1)),
-      λ b. entry-complete d c (b .1) (within-with K t c d (b .2)),
+      λ h. let s = entry-sound d c h in (a .books, rw (← a .state-is d) (s .0), with-within K t c d (books-within t (a .books)) (s .1)),
+      λ b. entry-complete d c (rw (a .state-is d) (b .1)) (within-with K t c d (b .2)),
     )
 
     -- what is carried is what is unfinished
@@ -119,38 +122,28 @@ module _ (K : Link) where
     ledger-valid = and-both (directionOk K l direction0) _ (direction-valid direction0) (direction-valid direction1)
 
     module _ (c : Container) where
-      -- the container's numbers in the ledger's state and in the state behind the entries
-      same-begins : (d : Direction) (p : ℕ) → begins d (l .states d) c p ≡ begins d (stateAfter K d (containersOf d t)) c p
-      same-begins d p = ap (λ s. begins d s c p) (a .state-is d)
-
-      same-grants : (d : Direction) (p : ℕ) → grants d (l .states d) c p ≡ grants d (stateAfter K d (containersOf d t)) c p
-      same-grants d p = ap (λ s. grants d s c p) (a .state-is d)
-
-      same-finishes : (d : Direction) (p : ℕ) → finishes d (l .states d) c p ≡ finishes d (stateAfter K d (containersOf d t)) c p
-      same-finishes d p = ap (λ s. finishes d s c p) (a .state-is d)
-
       entered-held : (d e : Direction) (p : ℕ) → WithinWith K t c d p
           → enter K l d c .held e p + begun K e p (t ▷ record { direction = d; container = c }) ≡ granted K e p (t ▷ record { direction = d; container = c })
-      entered-held direction0 direction0 p n = let k = a .held-is direction0 p in let m = same-begins direction0 p in omega arith
-      entered-held direction0 direction1 p n = let k = a .held-is direction1 p in let m = same-grants direction0 p in omega arith
-      entered-held direction1 direction0 p n = let k = a .held-is direction0 p in let m = same-grants direction1 p in omega arith
-      entered-held direction1 direction1 p n = let k = a .held-is direction1 p in let m = same-begins direction1 p in omega arith
+      entered-held direction0 direction0 p n = let k = a .held-is direction0 p in let m = same-begins c direction0 p in omega arith
+      entered-held direction0 direction1 p n = let k = a .held-is direction1 p in let m = same-grants c direction0 p in omega arith
+      entered-held direction1 direction0 p n = let k = a .held-is direction0 p in let m = same-grants c direction1 p in omega arith
+      entered-held direction1 direction1 p n = let k = a .held-is direction1 p in let m = same-begins c direction1 p in omega arith
 
       entered-unfinished : (d e : Direction) (p : ℕ)
           → carried (l .states d) p + begins d (l .states d) c p ≡ finishes d (l .states d) c p + carried (next d (l .states d) c) p
           → enter K l d c .unfinished e p + finished K e p (t ▷ record { direction = d; container = c }) ≡ begun K e p (t ▷ record { direction = d; container = c })
       entered-unfinished direction0 direction0 p n =
           let k = a .unfinished-is direction0 p in
-          let m = same-begins direction0 p in
-          let m′ = same-finishes direction0 p in
+          let m = same-begins c direction0 p in
+          let m′ = same-finishes c direction0 p in
           let u = unfinished-carried direction0 p in
           omega arith
       entered-unfinished direction0 direction1 p n = a .unfinished-is direction1 p
       entered-unfinished direction1 direction0 p n = a .unfinished-is direction0 p
       entered-unfinished direction1 direction1 p n =
           let k = a .unfinished-is direction1 p in
-          let m = same-begins direction1 p in
-          let m′ = same-finishes direction1 p in
+          let m = same-begins c direction1 p in
+          let m′ = same-finishes c direction1 p in
           let u = unfinished-carried direction1 p in
           omega arith
 

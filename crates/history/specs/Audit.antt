@@ -44,12 +44,19 @@ module _ (K : Link) where
   abbrev pub ledgerOk : Ledger → Bool
   ledgerOk l = directionOk l direction0 && directionOk l direction1
 
-  -- the container reads, begins no more than is held, and grants no more than the opposite receiver has left
+  -- the credits of pool p that the messages which start in the container pay
+  abbrev pub creditsPaid : Ledger → Direction → Container → ℕ → ℕ
+  creditsPaid l d c p = begins d (l .states d) c p
+
+  -- the slots of the opposite receiver's pool p that are taken, with those that the container grants
+  abbrev pub slotsTaken : Ledger → Direction → Container → ℕ → ℕ
+  slotsTaken l d c p = l .held (opposite d) p + l .unfinished (opposite d) p + grants d (l .states d) c p
+
+  -- the container reads, "begun ≤ granted" in its own direction, and "granted ≤ capacity + finished" in the opposite one
   abbrev pub entryOk : Ledger → Direction → Container → Bool
   entryOk l d c =
       reads d (l .states d) c
-      && (fitsBelow pools (begins d (l .states d) c) (l .held d)
-      && fitsBelow pools (λ p. l .held (opposite d) p + l .unfinished (opposite d) p + grants d (l .states d) c p) (capacity (opposite d)))
+      && (fitsBelow pools (creditsPaid l d c) (l .held d) && fitsBelow pools (slotsTaken l d c) (capacity (opposite d)))
 
   -- the ledger with the container entered
   abbrev pub enter : Ledger → Direction → Container → Ledger
