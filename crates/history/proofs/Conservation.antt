@@ -78,9 +78,9 @@ module _ (K : Link) where
         omega arith
 
     -- what came into each count is what is there and what went out
-    pub flows : (h : Trace (Event Container)) → History K h → (d : Direction) (p : ℕ) → Flows K d p h
+    pub flows-hold : (h : Trace (Event Container)) → History K h → (d : Direction) (p : ℕ) → Flows K d p h
     unfolding ungranted returning heldAtSender inFlight buffered
-    flows h v d p =
+    flows-hold h v d p =
         let i = out-within-in h v d p in
         let o = in-order K h v d in
         let o′ = in-order K h v (opposite d) in
@@ -92,4 +92,4 @@ module _ (K : Link) where
     -- the five add up to the receiver's buffers
     pub conserved : (h : Trace (Event Container)) → History K h → (d : Direction) (p : ℕ)
         → ungranted K d p h + returning K d p h + heldAtSender K d p h + inFlight K d p h + buffered K d p h ≡ capacity d p
-    conserved h v d p = let s = flows h v d p in omega arith
+    conserved h v d p = let s = flows-hold h v d p in omega arith

@@ -12,7 +12,7 @@ use Rattle.history.specs.Books.{Books}
 use Rattle.history.specs.Calls.{Call, Auditor, Admits, after}
 use Rattle.history.specs.Audit.{Ledger, ledgerOk, entryOk, auditEntry, linkAuditor}
 use Rattle.history.specs.Demand.{Closed}
-use Rattle.history.proofs.Conservation.{moment-history, flows, conserved}
+use Rattle.history.proofs.Conservation.{moment-history, flows-hold, conserved}
 use Rattle.history.proofs.Sound.{tap-sound}
 use Rattle.history.proofs.Eager.{tap-complete}
 use Rattle.history.proofs.Ledger.{Agrees, ledger-valid, entered-agrees, entry-exactly}
@@ -57,7 +57,7 @@ module _ (K : Link) (L : Lawful K) where
 
   pub link-faithful : Faithful (linkAuditor K) (Tapped K) (Agrees K)
   link-faithful = record {
-    at-first = record { held-is = λ d p. refl; unfinished-is = λ d p. refl; state-is = λ d. refl; books = tt };
+    at-first = record { held-is = λ d p. refl; unfinished-is = λ d p. refl; state-is = λ d. refl; books-kept = tt };
     decides = λ t l a x. (accepted-only t l a x (directionOf (x .number)) refl, accepted-if t l a x);
     enters = entered;
     refuses = refused;
@@ -69,7 +69,7 @@ module _ (K : Link) (L : Lawful K) where
     accepts-exactly = calls-exactly (linkAuditor K) (Tapped K) (Agrees K) link-faithful xs;
     credits = λ now m. always-agrees (linkAuditor K) (Tapped K) (Agrees K) link-faithful now .held-is;
     messages = λ now m. always-agrees (linkAuditor K) (Tapped K) (Agrees K) link-faithful now .unfinished-is;
-    counted = λ now b h m v e k. flows K L m (moment-history K k v);
+    counted = λ now b h m v e k. flows-hold K L m (moment-history K k v);
     adds-up = λ now b h m v e k. conserved K L m (moment-history K k v);
   }
 
@@ -85,6 +85,6 @@ module _ (K : Link) (L : Lawful K) where
               rw (S .same-answer (after U before) (after (linkAuditor K) before) (r before) x, s before) (c .accepts-exactly before x m);
           credits = λ now m d p. rw (S .same-held (after U now) (after (linkAuditor K) now) (r now) d p, s now) (c .credits now m d p);
           messages = λ now m d p. rw (S .same-unfinished (after U now) (after (linkAuditor K) now) (r now) d p, s now) (c .messages now m d p);
-          counted = λ now b h m v e k. flows K L m (moment-history K k v);
+          counted = λ now b h m v e k. flows-hold K L m (moment-history K k v);
           adds-up = λ now b h m v e k. conserved K L m (moment-history K k v);
         }

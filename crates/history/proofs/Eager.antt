@@ -13,7 +13,7 @@ use Rattle.history.specs.History.{Event, leaves, passes, arrives, frees,
 use Rattle.history.specs.Books.{containersOf, Books}
 use Rattle.history.proofs.Order.{freed-by, append-one-direction, append-own}
 use Rattle.history.proofs.Sound.{containers-passed}
-use Rattle.history.proofs.OneMore.{WithinWith, within-with}
+use Rattle.history.proofs.OneMore.{WithinWith, within-needs}
 
 opposite-differs : (e : Direction) → opposite e ≡ e → ⊥
 opposite-differs direction0 q = let z : _≡_ {A = ℕ} 0 1 = cc in omega arith
@@ -147,19 +147,20 @@ module _ (K : Link) where
 
   module _ (L : Lawful K) where
     ended-freed : (e : Direction) (c : Container) (t : Trace (Entry Container)) (p : ℕ) (h : Trace (Event Container))
+        → reads e (stateAfter K e (containersOf e t)) c ≡ true
         → freed e p (repeatEach (frees e) (ended e t c) pools h) ≡ freed e p h + ended e t c p
-    ended-freed e c t p h = go (decLe pools p)
+    ended-freed e c t p h r = go (decLe pools p)
       where
         go : Dec (pools ≤ p) → freed e p (repeatEach (frees e) (ended e t c) pools h) ≡ freed e p h + ended e t c p
         go (yes a) =
             let i = past-freed e (ended e t c) pools p h a in
-            let z = L .no-finish e (stateAfter K e (containersOf e t)) c p a in
+            let z = L .no-finish e (stateAfter K e (containersOf e t)) c p r a in
             omega arith
         go (no a) = each-freed e (ended e t c) pools p h (omega arith)
 
-    eager-freed : (d : Direction) (p : ℕ) (t : Trace (Entry Container)) → freed d p (eager t) ≡ total K finishes d (containersOf d t) p
-    eager-freed d p start = refl
-    eager-freed d p (t ▷ x) =
+    eager-freed : (d : Direction) (p : ℕ) (t : Trace (Entry Container)) → Books K t → freed d p (eager t) ≡ total K finishes d (containersOf d t) p
+    eager-freed d p start b = refl
+    eager-freed d p (t ▷ x) b =
         let e = x .direction in
         let c = x .container in
         append-one-direction
@@ -167,17 +168,17 @@ module _ (K : Link) where
         (λ d. containersOf d t)
         e
         c
-        (let i = ended-freed e c t p (cross e c (eager t)) in let j = eager-freed e p t in omega arith)
+        (let i = ended-freed e c t p (cross e c (eager t)) (b .1) in let j = eager-freed e p t (b .0) in omega arith)
         (each-keeps (freed (opposite e) p) (frees e) (λ q. freed-elsewhere (opposite e) e p q (λ a _. opposite-differs e a)) _ pools _
-        ∙ eager-freed (opposite e) p t)
+        ∙ eager-freed (opposite e) p t (b .0))
         d
 
-    eager-enabled : (e : Direction) (c : Container) (t : Trace (Entry Container)) → reads e (stateAfter K e (containersOf e t)) c ≡ true
-        → ((p : ℕ) → WithinWith K t c e p) → Enabled K (eager t) (leaves e c)
+    eager-enabled : (e : Direction) (c : Container) (t : Trace (Entry Container)) → Books K t
+        → reads e (stateAfter K e (containersOf e t)) c ≡ true → ((p : ℕ) → WithinWith K t c e p) → Enabled K (eager t) (leaves e c)
     unfolding heldAtSender
-    eager-enabled e c t r n = (
+    eager-enabled e c t b r n = (
       rw (eager-left e t) r,
-      (λ p. let i = n p in let f = eager-freed (opposite e) p t in rw (ungranted-opposite e p, eager-left e t) (omega arith)),
+      (λ p. let i = n p in let f = eager-freed (opposite e) p t b in rw (ungranted-opposite e p, eager-left e t) (omega arith)),
       (λ p. let i = n p in rw (eager-left e t, eager-arrived (opposite e) t) (omega arith)),
     )
 
@@ -187,8 +188,8 @@ module _ (K : Link) where
         let e = x .direction in
         let c = x .container in
         each-history e (ended e t c) pools (cross e c (eager t))
-        (((eager-history t (b .0), eager-enabled e c t (b .1) (within-with K t c e (b .2))), cross-order e c t .0), cross-order e c t .1)
-        (λ p. let f = eager-freed e p t in rw (append-own e c (arrived e (eager t)), eager-arrived e t) (omega arith))
+        (((eager-history t (b .0), eager-enabled e c t (b .0) (b .1) (within-needs K t c e (b .2))), cross-order e c t .0), cross-order e c t .1)
+        (λ p. let f = eager-freed e p t (b .0) in rw (append-own e c (arrived e (eager t)), eager-arrived e t) (omega arith))
 
     pub tap-complete : (t : Trace (Entry Container)) → Books K t → Tapped K t
     tap-complete t b = (eager t, eager-history t b, eager-tap t)

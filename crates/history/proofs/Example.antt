@@ -94,43 +94,43 @@ small-lawful n = record {
   none-lost = λ d s c p k r. none-lost s c p r;
   fresh-ok = λ d. refl;
   next-ok = λ d s c r k. refl;
-  no-grant = λ d s c p h. none-elsewhere (smallGrants c) p h;
-  no-begin = λ d s c p h. none-elsewhere (smallBegins c) p h;
-  no-finish = λ d s c p h. none-elsewhere (smallFinishes c) p h;
+  no-grant = λ d s c p r h. none-elsewhere (smallGrants c) p h;
+  no-begin = λ d s c p r h. none-elsewhere (smallBegins c) p h;
+  no-finish = λ d s c p r h. none-elsewhere (smallFinishes c) p h;
 }
 
 -- the books of its audit close
 small-books-close : (n : ℕ) (xs : Trace (Call Small)) → Closed (smallLink n) (linkAuditor (smallLink n)) xs
 small-books-close n = link-books-close (smallLink n) (small-lawful n)
 
-abbrev call : ℕ → Small → Call Small
-call d c = record { number = d; container = c }
+abbrev callOf : ℕ → Small → Call Small
+callOf d c = record { number = d; container = c }
 
 -- whether the audit with n buffers a receiver, after the calls xs, accepts the call x
-abbrev answer : ℕ → Trace (Call Small) → Call Small → Bool
-answer n xs x = linkAuditor (smallLink n) .audit (after (linkAuditor (smallLink n)) xs) x .accepts
+abbrev answerTo : ℕ → Trace (Call Small) → Call Small → Bool
+answerTo n xs x = linkAuditor (smallLink n) .audit (after (linkAuditor (smallLink n)) xs) x .accepts
 
 -- M8, capacity 2: granting 2 passes, granting 3 does not
-m8-two : answer 2 start (call 1 (grant 2)) ≡ true
+m8-two : answerTo 2 start (callOf 1 (grant 2)) ≡ true
 m8-two = refl
 
-m8-three : answer 2 start (call 1 (grant 3)) ≡ false
+m8-three : answerTo 2 start (callOf 1 (grant 3)) ≡ false
 m8-three = refl
 
 -- M10, capacity 1: a message that has begun takes its slot until it is finished, and a refused call changes nothing
-m10-begun : answer 1 (start ▷ call 1 (grant 1) ▷ call 0 begin) (call 1 (grant 1)) ≡ false
+m10-begun : answerTo 1 (start ▷ callOf 1 (grant 1) ▷ callOf 0 begin) (callOf 1 (grant 1)) ≡ false
 m10-begun = refl
 
-m10-finished : answer 1 (start ▷ call 1 (grant 1) ▷ call 0 begin ▷ call 1 (grant 1) ▷ call 0 broken ▷ call 0 finish) (call 1 (grant 1)) ≡ true
+m10-finished : answerTo 1 (start ▷ callOf 1 (grant 1) ▷ callOf 0 begin ▷ callOf 1 (grant 1) ▷ callOf 0 broken ▷ callOf 0 finish) (callOf 1 (grant 1)) ≡ true
 m10-finished = refl
 
 -- a grant pays the opposite direction
-opposite-pays : answer 2 (start ▷ call 1 (grant 2)) (call 0 begin) ≡ true
+opposite-pays : answerTo 2 (start ▷ callOf 1 (grant 2)) (callOf 0 begin) ≡ true
 opposite-pays = refl
 
-own-does-not : answer 2 (start ▷ call 1 (grant 2)) (call 1 begin) ≡ false
+own-does-not : answerTo 2 (start ▷ callOf 1 (grant 2)) (callOf 1 begin) ≡ false
 own-does-not = refl
 
 -- a number that is no direction is refused
-no-direction : answer 2 start (call 2 (grant 1)) ≡ false
+no-direction : answerTo 2 start (callOf 2 (grant 1)) ≡ false
 no-direction = refl

@@ -14,7 +14,7 @@ use Rattle.history.specs.Audit.{fitsBelow, Ledger, directionOk, ledgerOk
 use Rattle.history.proofs.Below.{below-fits, fits-below, equal-below}
 use Rattle.history.proofs.Order.{append-one-direction}
 use Rattle.history.proofs.Conservation.{Readable, state-valid, begun-or-carried}
-use Rattle.history.proofs.OneMore.{WithinWith, within-with, with-within}
+use Rattle.history.proofs.OneMore.{WithinWith, within-needs, within-suffices}
 
 module _ (K : Link) where
   open Link K using (Container, reads, next, grants, begins, finishes, carried, stateOk, pools, capacity)
@@ -34,7 +34,7 @@ module _ (K : Link) where
     pub held-is : (d : Direction) (p : ℕ) → l .held d p + begun K d p t ≡ granted K d p t
     pub unfinished-is : (d : Direction) (p : ℕ) → l .unfinished d p + finished K d p t ≡ begun K d p t
     pub state-is : (d : Direction) → l .states d ≡ stateAfter K d (containersOf d t)
-    pub books : Books K t
+    pub books-kept : Books K t
 
   pub granted-opposite : (e : Direction) (p : ℕ) (t : Trace (Entry Container)) → granted K (opposite e) p t ≡ total K grants e (containersOf e t) p
   granted-opposite direction0 p t = refl
@@ -54,24 +54,27 @@ module _ (K : Link) where
     entry-sound : (d : Direction) (c : Container) → entryOk K l d c ≡ true → (reads d (l .states d) c ≡ true) × ((p : ℕ) → WithinWith K t c d p)
     entry-sound d c h =
         let r = and-right (reads d (l .states d) c) _ h in
+        let k = and-left (reads d (l .states d) c) _ h in
         let x = and-left (fitsBelow pools (creditsPaid K l d c) (l .held d)) _ r in
         let y = and-right (fitsBelow pools (creditsPaid K l d c) (l .held d)) _ r in
-        (and-left (reads d (l .states d) c) _ h, λ p. go x y p (decLe pools p))
+        (k, λ p. go k x y p (decLe pools p))
       where
-        go : fitsBelow pools (creditsPaid K l d c) (l .held d) ≡ true → fitsBelow pools (slotsTaken K l d c) (capacity (opposite d)) ≡ true
+        go : reads d (l .states d) c ≡ true → fitsBelow pools (creditsPaid K l d c) (l .held d) ≡ true → fitsBelow pools (slotsTaken K l d c) (capacity (opposite d)) ≡ true
             → (p : ℕ) → Dec (pools ≤ p) → WithinWith K t c d p
-        go x y p (yes q) =
-            let w = books-within t (a .books) d p in
-            let w′ = books-within t (a .books) (opposite d) p in
-            let z = L .no-begin d (stateAfter K d (containersOf d t)) c p q in
-            let z′ = L .no-grant d (stateAfter K d (containersOf d t)) c p q in
+        go k x y p (yes q) =
+            let w = books-within t (a .books-kept) d p in
+            let w′ = books-within t (a .books-kept) (opposite d) p in
+            let z = L .no-begin d (l .states d) c p k q in
+            let z′ = L .no-grant d (l .states d) c p k q in
             let g = granted-opposite d p t in
+            let m = same-begins c d p in
+            let m′ = same-grants c d p in
             omega arith
-        go x y p (no q) =
+        go k x y p (no q) =
             let i = below-fits pools (creditsPaid K l d c) (l .held d) x p (omega arith) in
             let j = below-fits pools (slotsTaken K l d c) (capacity (opposite d)) y p (omega arith) in
-            let k = a .held-is d p in
-            let k′ = a .held-is (opposite d) p in
+            let e = a .held-is d p in
+            let e′ = a .held-is (opposite d) p in
             let u = a .unfinished-is (opposite d) p in
             let g = granted-opposite d p t in
             let m = same-begins c d p in
@@ -95,26 +98,26 @@ module _ (K : Link) where
     -- the test of an entry passes exactly when the entries with it keep the books
     pub entry-exactly : (d : Direction) (c : Container) → entryOk K l d c ≡ true ↔ Books K (t ▷ record { direction = d; container = c })
     entry-exactly d c = (
-      λ h. let s = entry-sound d c h in (a .books, rw (← a .state-is d) (s .0), with-within K t c d (books-within t (a .books)) (s .1)),
-      λ b. entry-complete d c (rw (a .state-is d) (b .1)) (within-with K t c d (b .2)),
+      λ h. let s = entry-sound d c h in (a .books-kept, rw (← a .state-is d) (s .0), within-suffices K t c d (books-within t (a .books-kept)) (s .1)),
+      λ b. entry-complete d c (rw (a .state-is d) (b .1)) (within-needs K t c d (b .2)),
     )
 
     -- what is carried is what is unfinished
     unfinished-carried : (d : Direction) (p : ℕ) → l .unfinished d p ≡ carried (l .states d) p
     unfinished-carried d p =
         let u = a .unfinished-is d p in
-        let b = begun-or-carried K L d p (containersOf d t) (books-read t (a .books) d) in
+        let b = begun-or-carried K L d p (containersOf d t) (books-read t (a .books-kept) d) in
         rw (a .state-is d) (omega arith)
 
     ledger-state : (d : Direction) → stateOk d (l .states d) ≡ true
-    ledger-state d = rw (a .state-is d) (state-valid K L d (containersOf d t) (books-read t (a .books) d))
+    ledger-state d = rw (a .state-is d) (state-valid K L d (containersOf d t) (books-read t (a .books-kept) d))
 
     direction-valid : (d : Direction) → directionOk K l d ≡ true
     direction-valid d =
         and-both (stateOk d (l .states d)) _ (ledger-state d)
         (and-both (fitsBelow pools (λ p. l .held d p + l .unfinished d p) (capacity d)) _
         (fits-below pools (λ p. l .held d p + l .unfinished d p) (capacity d)
-        (λ p z. let w = books-within t (a .books) d p in let h = a .held-is d p in let u = a .unfinished-is d p in omega arith))
+        (λ p z. let w = books-within t (a .books-kept) d p in let h = a .held-is d p in let u = a .unfinished-is d p in omega arith))
         (equal-below pools (l .unfinished d) (carried (l .states d)) (λ p z. unfinished-carried d p)))
 
     -- a ledger that agrees is valid
@@ -157,8 +160,8 @@ module _ (K : Link) where
       pub entered-agrees : (d : Direction) → Books K (t ▷ record { direction = d; container = c })
           → Agrees (t ▷ record { direction = d; container = c }) (enter K l d c)
       entered-agrees d b = record {
-        held-is = λ e p. entered-held d e p (within-with K t c d (b .2) p);
+        held-is = λ e p. entered-held d e p (within-needs K t c d (b .2) p);
         unfinished-is = λ e p. entered-unfinished d e p (L .none-lost d (l .states d) c p (ledger-state d) (rw (a .state-is d) (b .1)));
         state-is = entered-state d;
-        books = b;
+        books-kept = b;
       }

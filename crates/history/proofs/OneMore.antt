@@ -17,12 +17,12 @@ module _ (K : Link) (t : Trace (Entry (K .Container))) (c : K .Container) where
       × (total K grants e (containersOf e t) p + grants e (stateAfter K e (containersOf e t)) c p
       ≤ capacity (opposite e) p + total K finishes (opposite e) (containersOf (opposite e) t) p)
 
-  pub within-with : (e : Direction) → Within K (t ▷ record { direction = e; container = c }) → (p : ℕ) → WithinWith e p
-  within-with direction0 w p = (w direction0 p .0, w direction1 p .1)
-  within-with direction1 w p = (w direction1 p .0, w direction0 p .1)
+  pub within-needs : (e : Direction) → Within K (t ▷ record { direction = e; container = c }) → (p : ℕ) → WithinWith e p
+  within-needs direction0 w p = (w direction0 p .0, w direction1 p .1)
+  within-needs direction1 w p = (w direction1 p .0, w direction0 p .1)
 
-  pub with-within : (e : Direction) → Within K t → ((p : ℕ) → WithinWith e p) → Within K (t ▷ record { direction = e; container = c })
-  with-within direction0 w n direction0 p = let i = w direction0 p in let j = n p in omega arith
-  with-within direction0 w n direction1 p = let i = w direction1 p in let j = n p in omega arith
-  with-within direction1 w n direction0 p = let i = w direction0 p in let j = n p in omega arith
-  with-within direction1 w n direction1 p = let i = w direction1 p in let j = n p in omega arith
+  pub within-suffices : (e : Direction) → Within K t → ((p : ℕ) → WithinWith e p) → Within K (t ▷ record { direction = e; container = c })
+  within-suffices direction0 w n direction0 p = let i = w direction0 p in let j = n p in omega arith
+  within-suffices direction0 w n direction1 p = let i = w direction1 p in let j = n p in omega arith
+  within-suffices direction1 w n direction0 p = let i = w direction0 p in let j = n p in omega arith
+  within-suffices direction1 w n direction1 p = let i = w direction1 p in let j = n p in omega arith

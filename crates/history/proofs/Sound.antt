@@ -35,7 +35,7 @@ module _ (K : Link) where
       omega arith
 
   tap-within : (h : Trace (Event Container)) → History K h → Within K (tapRecord h)
-  tap-within h v d p = rw (containers-passed d h, containers-passed (opposite d) h) (passed-bounds h v d p)
+  tap-within h v d p = rw (containers-passed d h, containers-passed (opposite d) h) (let b = passed-bounds h v d p in omega arith)
 
   beginning-reads : (d : Direction) {a b : Trace Container} → a ⊑ b → Readable K d b → Readable K d a
   beginning-reads d (whole e) r = rw e r

@@ -9,7 +9,7 @@ use Rattle.history.specs.Trace.{Trace, start, _▷_}
 use Rattle.history.specs.Link.{Direction, direction0, direction1, sameDirection, Link, Lawful}
 use Rattle.history.specs.History.{Event, leaves, passes, arrives, frees, ungranted, returning, heldAtSender, inFlight, buffered, History}
 use Rattle.history.specs.Ring.{Counters, free, turn, turned}
-use Rattle.history.proofs.Conservation.{flows}
+use Rattle.history.proofs.Conservation.{flows-hold}
 
 same-counters : (f g : Counters)
     → (f .ungranted ≡ g .ungranted)
@@ -43,31 +43,31 @@ module _ (K : Link) (L : Lawful K) where
       → (b : Bool) → (sameDirection d e && eqb p q) ≡ b
       → pick (sameDirection d e && eqb p q) (free 1 (countersOf d p h)) (countersOf d p h) ≡ countersOf d p (h ▷ frees e q)
   free-counts d p h e q v true t =
-      let a = flows K L h (v .0) d p in let b = flows K L (h ▷ frees e q) v d p in let b′ = rw t at b in rw t (same-counters _ _ (omega arith))
+      let a = flows-hold K L h (v .0) d p in let b = flows-hold K L (h ▷ frees e q) v d p in let b′ = rw t at b in rw t (same-counters _ _ (omega arith))
   free-counts d p h e q v false t =
-      let a = flows K L h (v .0) d p in let b = flows K L (h ▷ frees e q) v d p in let b′ = rw t at b in rw t (same-counters _ _ (omega arith))
+      let a = flows-hold K L h (v .0) d p in let b = flows-hold K L (h ▷ frees e q) v d p in let b′ = rw t at b in rw t (same-counters _ _ (omega arith))
 
   -- an event turns the five counts before it into those behind it
   turn-counts : (d : Direction) (p : ℕ) (h : Trace (Event Container)) (e : Event Container) → History K (h ▷ e)
       → turn K d p h e (countersOf d p h) ≡ countersOf d p (h ▷ e)
   turn-counts direction0 p h (leaves direction0 c) v =
-      same-counters _ _ (let a = flows K L h (v .0) direction0 p in let b = flows K L (h ▷ leaves direction0 c) v direction0 p in omega arith)
+      same-counters _ _ (let a = flows-hold K L h (v .0) direction0 p in let b = flows-hold K L (h ▷ leaves direction0 c) v direction0 p in omega arith)
   turn-counts direction0 p h (leaves direction1 c) v =
-      same-counters _ _ (let a = flows K L h (v .0) direction0 p in let b = flows K L (h ▷ leaves direction1 c) v direction0 p in omega arith)
+      same-counters _ _ (let a = flows-hold K L h (v .0) direction0 p in let b = flows-hold K L (h ▷ leaves direction1 c) v direction0 p in omega arith)
   turn-counts direction1 p h (leaves direction0 c) v =
-      same-counters _ _ (let a = flows K L h (v .0) direction1 p in let b = flows K L (h ▷ leaves direction0 c) v direction1 p in omega arith)
+      same-counters _ _ (let a = flows-hold K L h (v .0) direction1 p in let b = flows-hold K L (h ▷ leaves direction0 c) v direction1 p in omega arith)
   turn-counts direction1 p h (leaves direction1 c) v =
-      same-counters _ _ (let a = flows K L h (v .0) direction1 p in let b = flows K L (h ▷ leaves direction1 c) v direction1 p in omega arith)
+      same-counters _ _ (let a = flows-hold K L h (v .0) direction1 p in let b = flows-hold K L (h ▷ leaves direction1 c) v direction1 p in omega arith)
   turn-counts d p h (passes e c) v =
-      same-counters _ _ (let a = flows K L h (v .0) d p in let b = flows K L (h ▷ passes e c) v d p in omega arith)
+      same-counters _ _ (let a = flows-hold K L h (v .0) d p in let b = flows-hold K L (h ▷ passes e c) v d p in omega arith)
   turn-counts direction0 p h (arrives direction0 c) v =
-      same-counters _ _ (let a = flows K L h (v .0) direction0 p in let b = flows K L (h ▷ arrives direction0 c) v direction0 p in omega arith)
+      same-counters _ _ (let a = flows-hold K L h (v .0) direction0 p in let b = flows-hold K L (h ▷ arrives direction0 c) v direction0 p in omega arith)
   turn-counts direction0 p h (arrives direction1 c) v =
-      same-counters _ _ (let a = flows K L h (v .0) direction0 p in let b = flows K L (h ▷ arrives direction1 c) v direction0 p in omega arith)
+      same-counters _ _ (let a = flows-hold K L h (v .0) direction0 p in let b = flows-hold K L (h ▷ arrives direction1 c) v direction0 p in omega arith)
   turn-counts direction1 p h (arrives direction0 c) v =
-      same-counters _ _ (let a = flows K L h (v .0) direction1 p in let b = flows K L (h ▷ arrives direction0 c) v direction1 p in omega arith)
+      same-counters _ _ (let a = flows-hold K L h (v .0) direction1 p in let b = flows-hold K L (h ▷ arrives direction0 c) v direction1 p in omega arith)
   turn-counts direction1 p h (arrives direction1 c) v =
-      same-counters _ _ (let a = flows K L h (v .0) direction1 p in let b = flows K L (h ▷ arrives direction1 c) v direction1 p in omega arith)
+      same-counters _ _ (let a = flows-hold K L h (v .0) direction1 p in let b = flows-hold K L (h ▷ arrives direction1 c) v direction1 p in omega arith)
   turn-counts d p h (frees e q) v = free-counts d p h e q v (sameDirection d e && eqb p q) refl
 
   -- kept step by step, or counted over what has left, arrived and been freed: it is the same

@@ -19,14 +19,17 @@ pub record Answer (L : Type 0) : Type 0 where
   pub accepts : Bool
   pub ledger : L
 
--- an audit: its ledgers, the fresh one, the answer to every call with every ledger, and what a ledger reports for each direction and pool
+-- an audit: its ledgers, its answers, and what a ledger reports for each direction and pool
 pub record Auditor (A : Type 0) : Type 1 where
+  -- the ledgers, valid or not
   pub Ledger : Type 0
+  -- the ledger before the first call
   pub fresh : Ledger
+  -- the answer to a call with a ledger
   pub audit : Ledger → Call A → Answer Ledger
-  -- credits granted and not paid, as seen at the tap
+  -- the credits that a ledger reports as granted and not paid at the tap
   pub held : Ledger → Direction → ℕ → ℕ
-  -- messages begun and not finished, as seen at the tap
+  -- the messages that a ledger reports as begun and not finished at the tap
   pub unfinished : Ledger → Direction → ℕ → ℕ
 
 -- the entries t, and behind them the entry that a call with this direction makes

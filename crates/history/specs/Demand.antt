@@ -1,4 +1,4 @@
--- Demand 3 as one claim about a list of audit calls. It holds for every list (proofs/Demand.antt), so for each of at most 16,777,215 calls.
+-- Demand 3 as one claim about a list of audit calls; it is proved of every list, so of every one of at most 16,777,215 calls.
 use Prim.Native.Nat.{ℕ, _+_}
 use mathlib.Core.Path.{_≡_}
 use Rattle.history.specs.Trace.{Trace, _⊑_}
