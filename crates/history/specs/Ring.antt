@@ -45,7 +45,7 @@ pay n f = record {
   buffered = f .buffered;
 }
 
--- n messages in flight are all at the receiver
+-- n messages in flight have arrived whole at the receiver
 abbrev pub buffer : ℕ → Counters → Counters
 buffer n f = record {
   ungranted = f .ungranted;
