@@ -93,8 +93,11 @@ abbrev pub activationOk : List ℕ → Bool
 activationOk m = activationBy (typeOf m) (opOf m) (getD m 2 0)
 
 -- CrdtGrant: bytes 2-6 are a grant form, bytes 7-15 zero
+abbrev pub grantBy : ℕ → ℕ → List ℕ → Bool
+grantBy t o m = not (miscBy t o crdtGrant) || (formOk (getD m 2 0) && zeros (part 7 9 m))
+
 abbrev pub grantOk : List ℕ → Bool
-grantOk m = not (isMisc m crdtGrant) || (formOk (getD m 2 0) && zeros (part 7 9 m))
+grantOk m = grantBy (typeOf m) (opOf m) m
 
 -- a head whose bits and bytes are right (term of document 01)
 abbrev pub wellHeaded : List ℕ → Bool

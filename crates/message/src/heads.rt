@@ -6,7 +6,7 @@ ghost use lib.ListN.{getD};
 ghost use lib.Dec.{ltb};
 ghost use Rattle.lists.specs.Parts.{zeros, part};
 ghost use Rattle.container.specs.Grants.{formOk};
-ghost use Rattle.message.specs.Heads.{opSizes, sizeBy, msgSize, classOf, miscBy, flagBound, pushBy, activationBy, wellHeaded, isMessage};
+ghost use Rattle.message.specs.Heads.{opSizes, sizeBy, msgSize, classOf, miscBy, flagBound, pushBy, activationBy, grantBy, wellHeaded, isMessage};
 use container::byte_at;
 use container::is_form;
 use container::is_zero;
@@ -54,6 +54,35 @@ pub fn measure_code(kind: u8, op: u8) -> usize
         10 => measure_misc(op),
         11..=255 => 0,
     }
+}
+
+// The bytes of the messages other than MiscU, by type.
+const TYPE_SIZES: [u8; 10] = [0, 20, 40, 10, 20, 20, 80, 100, 100, 120];
+
+// The bytes of a MiscU, by op.
+const OP_SIZES: [u8; 5] = [10, 10, 16, 10, 20];
+
+// The entry of the tables for a type and op, 0 where either is unknown.
+fn find_size(kind: u8, op: u8) -> u8
+    ensures { λ r. ⌜ r ≡ sizeBy kind op ⌝ }
+{
+    if kind < 10 {
+        return TYPE_SIZES[kind as usize];
+    }
+    if kind != 10 {
+        return 0;
+    }
+    if op < 5 {
+        return OP_SIZES[op as usize];
+    }
+    0
+}
+
+// The same bytes as `measure_code` by tables, for the granule pass, which tests them.
+pub fn look_up_size(kind: u8, op: u8) -> usize
+    ensures { λ r. ⌜ r ≡ sizeBy kind op ⌝ }
+{
+    find_size(kind, op) as usize
 }
 
 // The bytes that a message has by its head, 0 where its type or op is unknown.
@@ -158,7 +187,7 @@ fn holds_grant(message: &[u8]) -> bool
 }
 
 // Whether the bits of byte 0, and bytes 1 and 2, keep the rules that hold of them alone.
-fn keeps_bytes(first: u8, second: u8, third: u8) -> bool
+pub fn keeps_bytes(first: u8, second: u8, third: u8) -> bool
     ensures { λ r. ⌜ r ≡ (ltb (first / 16) (flagBound (first % 16)) && (pushBy (first % 16) second && activationBy (first % 16) second third)) ⌝ }
 {
     let kind = first % 16;
@@ -171,19 +200,26 @@ fn keeps_bytes(first: u8, second: u8, third: u8) -> bool
     false
 }
 
+// Whether bytes 2 to 15 keep the rule of a CrdtGrant.
+pub fn keeps_grant(kind: u8, op: u8, message: &[u8]) -> bool
+    ensures { λ r. ⌜ r ≡ grantBy kind op (now (message .entry)) ⌝ }
+{
+    if is_misc(kind, op, 2) {
+        return holds_grant(message);
+    }
+    true
+}
+
 // Whether the head bits and bytes of a message are right.
 pub fn is_well_headed(message: &[u8]) -> bool
     ensures { λ r. ⌜ r ≡ wellHeaded (now (message .entry)) ⌝ }
 {
     let first = byte_at(message, 0);
     let second = byte_at(message, 1);
-    if !keeps_bytes(first, second, byte_at(message, 2)) {
-        return false;
+    if keeps_bytes(first, second, byte_at(message, 2)) {
+        return keeps_grant(first % 16, second, message);
     }
-    if is_misc(first % 16, second, 2) {
-        return holds_grant(message);
-    }
-    true
+    false
 }
 
 // Whether the bytes are a whole message with a right head.

@@ -1,6 +1,5 @@
 -- `message::heads::is_well_headed` meets its contract.
-use mathlib.Core.Path.{_∙_}
-use Rattle.message.proofs.HeadCases.{bytes-break, with-grant, without-grant}
+use Rattle.message.proofs.HeadCases.{bytes-break, grant-decides}
 use borrow.Author.Needs.{needs}
 use Rattle.message.proofs.heads.is_well_headed.Statement.{statement}
 use Rattle.message.proofs.heads.is_well_headed.Tie as tie
@@ -17,40 +16,24 @@ byte-at-requires-3 c κs = search needs
 keeps-bytes-requires : tie.Need-keeps-bytes-requires
 keeps-bytes-requires c κs = search needs
 
+keeps-grant-requires : tie.Need-keeps-grant-requires
+keeps-grant-requires c κs = search needs
+
 returns : tie.Need-returns
 returns c =
+    let kept = c .before .before in
+    let third = kept .before in
+    let second = third .before in
+    let first = second .before in
+    grant-decides (first .before .before .args .message .now) (first .byte-at .ensures) (second .byte-at2 .ensures) (third .byte-at3 .ensures) (kept .keeps-bytes .ensures) (c .before .if1 .taken) (c .keeps-grant .ensures)
+
+returns-2 : tie.Need-returns-2
+returns-2 c =
     let kept = c .before in
     let third = kept .before in
     let second = third .before in
     let first = second .before in
-    bytes-break (first .before .before .args .message .now) (first .byte-at .ensures) (second .byte-at2 .ensures) (third .byte-at3 .ensures) (kept .keeps-bytes .ensures) (c .if1 .taken)
-
-is-misc-requires : tie.Need-is-misc-requires
-is-misc-requires c κs = search needs
-
-holds-grant-requires : tie.Need-holds-grant-requires
-holds-grant-requires c κs = search needs
-
-returns-2 : tie.Need-returns-2
-returns-2 c =
-    let misc = c .before .before in
-    let kept = misc .before .before in
-    let third = kept .before in
-    let second = third .before in
-    let first = second .before in
-    c .holds-grant .ensures
-    ∙ with-grant (first .before .before .args .message .now) (first .byte-at .ensures) (second .byte-at2 .ensures) (third .byte-at3 .ensures) (kept .keeps-bytes .ensures)
-    (misc .before .if1 .left) (misc .is-misc .ensures) (c .before .if2 .taken)
-
-returns-3 : tie.Need-returns-3
-returns-3 c =
-    let misc = c .before in
-    let kept = misc .before .before in
-    let third = kept .before in
-    let second = third .before in
-    let first = second .before in
-    without-grant (first .before .before .args .message .now) (first .byte-at .ensures) (second .byte-at2 .ensures) (third .byte-at3 .ensures) (kept .keeps-bytes .ensures)
-    (misc .before .if1 .left) (misc .is-misc .ensures) (c .if2 .left)
+    bytes-break (first .before .before .args .message .now) (first .byte-at .ensures) (second .byte-at2 .ensures) (third .byte-at3 .ensures) (kept .keeps-bytes .ensures) (c .if1 .left)
 
 pub is-well-headed-spec : {M : Type 1} → statement M
 is-well-headed-spec =
@@ -60,8 +43,6 @@ is-well-headed-spec =
     byte-at-requires-2
     byte-at-requires-3
     keeps-bytes-requires
+    keeps-grant-requires
     returns
-    is-misc-requires
-    holds-grant-requires
-    returns-2
-    returns-3)
+    returns-2)
