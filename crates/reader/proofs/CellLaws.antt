@@ -22,11 +22,11 @@ module _ (fm : Format) (g : ℕ) (b : List ℕ) where
   unfolding finding
   twice = refl
 
-  pub on-fine : length b ≤ 20 → Mark 1 ≡ finding fm g (cellFrom true false b)
+  pub on-fine : length b ≤ 20 → Mark 1 0 ≡ finding fm g (cellFrom true false b)
   unfolding finding
   on-fine h = rw (drop-of-length-le b h)
 
-  pub empty-fine : zeros b ≡ true → Mark 0 ≡ finding fm g (cellFrom false false b)
+  pub empty-fine : zeros b ≡ true → Mark 0 0 ≡ finding fm g (cellFrom false false b)
   unfolding finding
   empty-fine e = rw e
 
@@ -67,9 +67,9 @@ module _ (fm : Format) (g : ℕ) (b : List ℕ) where
           unfolding finding
           start-not z = rw (has-size, placed-is ∙ not-false allowed p, sym eh ∙ not-false headed h, rest-is ∙ not-true rest z)
 
-          pub start-fine : not rest ≡ false → {mark : ℕ} → mark ≡ startMark (first % 16) second → Mark mark ≡ finding fm g (cellFrom false true b)
+          pub start-fine : not rest ≡ false → {mark : ℕ} → mark ≡ startMark (first % 16) second → Mark mark size ≡ finding fm g (cellFrom false true b)
           unfolding finding
-          start-fine z k = rw (has-size, placed-is ∙ not-false allowed p, sym eh ∙ not-false headed h, rest-is ∙ not-false rest z, k, ef, es)
+          start-fine z k = rw (has-size, placed-is ∙ not-false allowed p, sym eh ∙ not-false headed h, rest-is ∙ not-false rest z, k, ez, ef, es)
 
 -- the part that the code takes of granule g
 pub granule-part : (f g a n : ℕ) (c : List ℕ) → a ≡ start g → n ≡ formatOf f .size g → take ((a + n) - a) (drop a c) ≡ granule (formatOf f) g c

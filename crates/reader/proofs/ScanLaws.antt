@@ -8,6 +8,7 @@ use native.Mathlib.Nat.{not-suc-le-zero, zero-add}
 use native.Mathlib.Numerals.{add-one}
 use lib.ListN.{length, getD, set, replicate}
 use lib.Dec.{ltb}
+use Rattle.lists.specs.Pick.{pick}
 use Rattle.lists.proofs.Fill.{grown, grown-more, grown-all}
 use Rattle.cause.specs.Checks.{Check, check, firstFault}
 use Rattle.cause.specs.declared.Cause.{Cause}
@@ -15,10 +16,11 @@ use Rattle.cause.specs.declared.Cause.the-variants.{StartInsideMessage, Unknown
 use Rattle.cause.specs.declared.Verdict.{Verdict}
 use Rattle.cause.specs.declared.Verdict.the-variants.{Sound, Faulty}
 use Rattle.container.specs.Layout.{Format, formatOf, wide, granule, msgStart, bit}
+use Rattle.message.specs.Heads.{msgSize}
 use Rattle.reader.specs.Cells.{Cell, owed, cells}
-use Rattle.reader.specs.Checking.{startsAlone, startKnown, startPlaced, startHeaded, restZero, cellChecks, granuleChecks}
+use Rattle.reader.specs.Checking.{starting, startsAlone, startKnown, startPlaced, startHeaded, restZero, cellChecks, granuleChecks}
 use Rattle.reader.specs.Keeps.{progress, cellOf}
-use Rattle.reader.specs.Tracking.{trackOf, trackAfter, trackAt, markOf, marksOf, cellFrom, findingOf, finding, Scanned, Begun}
+use Rattle.reader.specs.Tracking.{trackOf, trackBy, trackAfter, trackAt, markOf, marksOf, cellFrom, findingOf, finding, Scanned, Begun}
 use Rattle.reader.specs.declared.track.Track.{Track}
 use Rattle.reader.specs.declared.cell.Finding.{Finding}
 use Rattle.reader.specs.declared.cell.Finding.the-variants.{Fault, Mark}
@@ -28,7 +30,7 @@ use Rattle.reader.proofs.TrackLaws.{follows}
 -- what a cell's finding makes of the verdict on what comes behind it
 abbrev then : Finding → ℕ → Verdict → Verdict
 then (Fault k) g v = Faulty k g
-then (Mark n) g v = v
+then (Mark n k) g v = v
 
 -- a cell's checks before others
 checks-first : (fm : Format) (g : ℕ) (e : Cell) (l : List Check) → firstFault (cellChecks fm g e ++ l) ≡ then (finding fm g e) g (firstFault l)
@@ -39,7 +41,7 @@ checks-first fm g e l = by (startsAlone e) (startKnown e) (startPlaced fm g e) (
     five a b c d f =
         check a StartInsideMessage g ∷ check b UnknownMessage g ∷ check c PlaceNotAllowed g ∷ check d HeadWrong g ∷ check f UnusedByteNotZero g ∷ []
 
-    by : (a b c d f : Bool) → firstFault (five a b c d f ++ l) ≡ then (findingOf (firstFault (five a b c d f)) (markOf e)) g (firstFault l)
+    by : (a b c d f : Bool) → firstFault (five a b c d f ++ l) ≡ then (findingOf (firstFault (five a b c d f)) (markOf e) (starting msgSize e)) g (firstFault l)
     by false b c d f = refl
     by true false c d f = refl
     by true true false d f = refl
@@ -47,14 +49,19 @@ checks-first fm g e l = by (startsAlone e) (startKnown e) (startPlaced fm g e) (
     by true true true true false = refl
     by true true true true true = refl
 
--- the mark that is found is the cell's
-mark-is : (v : Verdict) (n k : ℕ) → findingOf v n ≡ Mark k → k ≡ n
-mark-is Sound n k e = cc
-mark-is (Faulty a p) n k e = let z : _≡_ {A = ℕ} 0 1 = cc in absurd (omega arith)
+-- the mark and the size that are found are the cell's
+mark-is : (v : Verdict) (n i k j : ℕ) → findingOf v n i ≡ Mark k j → (k ≡ n) × (j ≡ i)
+mark-is Sound n i k j e = (cc, cc)
+mark-is (Faulty a p) n i k j e = let z : _≡_ {A = ℕ} 0 1 = cc in absurd (omega arith)
 
-found-mark : (fm : Format) (g : ℕ) (e : Cell) (k : ℕ) → finding fm g e ≡ Mark k → k ≡ markOf e
+found-mark : (fm : Format) (g : ℕ) (e : Cell) (k j : ℕ) → finding fm g e ≡ Mark k j → (k ≡ markOf e) × (j ≡ starting msgSize e)
 unfolding finding
-found-mark fm g e k = mark-is (firstFault (cellChecks fm g e)) (markOf e) k
+found-mark fm g e k j = mark-is (firstFault (cellChecks fm g e)) (markOf e) (starting msgSize e) k j
+
+-- where no message starts, its size does not matter
+size-matters : (fm : Format) (g : ℕ) (st : Bool) (n : ℕ) (t : Track) → trackBy fm g st (pick st n 0) t ≡ trackBy fm g st n t
+size-matters fm g false n t = refl
+size-matters fm g true n t = refl
 
 -- marks by granule
 marks-length : (f : ℕ → Cell) (k g : ℕ) → length (marksOf (listFrom f k g)) ≡ k
@@ -145,12 +152,18 @@ module _ (f : ℕ) (c m : List ℕ) {marks : List ℕ} {track : Track} (g : ℕ)
       never : Faulty k g ≡ Sound → ⊥
       never s = let z : _≡_ {A = ℕ} 0 1 = cc in omega arith
 
-  pub scan-goes-on : {k : ℕ} → found ≡ Mark k → {track′ : Track} → track′ ≡ trackAfter (formatOf f) c w g track → Scanning f c m (set marks g k) track′ (g + 1)
+  track-is : {k n : ℕ} → found ≡ Mark k n → {st : Bool} → st ≡ bit w g → trackBy (formatOf f) g st n track ≡ trackAfter (formatOf f) c w g track
+  unfolding trackAfter
+  track-is {k} {n} e es =
+      let en = found-mark (formatOf f) g (cellFrom (ltb 0 (track .owed) && wide (formatOf f) g) (bit w g) (granule (formatOf f) g c)) k n (sym ef ∙ e) .1 in
+      (λ j. trackBy (formatOf f) g (es j) (en j) track) ∙ size-matters (formatOf f) g (bit w g) (msgSize (granule (formatOf f) g c)) track
+
+  pub scan-goes-on : {k n : ℕ} → found ≡ Mark k n → {st : Bool} → st ≡ bit w g → {track′ : Track} → track′ ≡ trackBy (formatOf f) g st n track → Scanning f c m (set marks g k) track′ (g + 1)
   unfolding trackAt
-  scan-goes-on {k} e {track′} et = record {
+  scan-goes-on {k} {n} e es {track′} et = record {
     within = omega arith;
-    grows = ap (λ (l : List ℕ). set l g k) (i .grows) ∙ marks-next (formatOf f) c m g k b (found-mark (formatOf f) g (cellOf (formatOf f) c m g) k (sym found-is ∙ e));
-    follows = et ∙ (λ j. trackAfter (formatOf f) c (ew j) g (i .follows j)) ∙ ap (trackAt (formatOf f) c (msgStart (formatOf f) c) (trackOf m)) (sym (add-one g));
+    grows = ap (λ (l : List ℕ). set l g k) (i .grows) ∙ marks-next (formatOf f) c m g k b (found-mark (formatOf f) g (cellOf (formatOf f) c m g) k n (sym found-is ∙ e) .0);
+    follows = et ∙ track-is e es ∙ (λ j. trackAfter (formatOf f) c (ew j) g (i .follows j)) ∙ ap (trackAt (formatOf f) c (msgStart (formatOf f) c) (trackOf m)) (sym (add-one g));
     same = rw e at fault-is;
   }
 

@@ -1,6 +1,6 @@
 -- One step of a track, case by case. Assumes nothing.
 use Prim.Native.Nat.{ℕ, _+_, _-_, _≤_, _<_}
-use mathlib.Core.Path.{_≡_, refl, sym, ap, _∙_}
+use mathlib.Core.Path.{_≡_, sym, _∙_}
 use mathlib.Core.Bool.{Bool, true, false, _&&_}
 use mathlib.Core.List.{List}
 use native.Mathlib.Omega.{arith}
@@ -11,7 +11,7 @@ use Rattle.lists.specs.Pick.{pick}
 use Rattle.lists.proofs.Tests.{and-false}
 use Rattle.container.specs.Layout.{Format, start, wide, granule, bit}
 use Rattle.message.specs.Heads.{msgSize}
-use Rattle.reader.specs.Tracking.{noTrack, trackOf, trackAfter}
+use Rattle.reader.specs.Tracking.{noTrack, trackOf, trackBy, trackAfter}
 use Rattle.reader.specs.declared.track.Track.{Track}
 
 -- a carried message of which size and length are given
@@ -21,36 +21,38 @@ carried-whole m n e h = let z : 0 ≡ msgSize m - length m = omega arith in λ i
 pub carried-on : (m : List ℕ) (n : ℕ) → n ≡ msgSize m → _≡_ {A = Track} (record { owed = n - length m; size = n; from = 0; kept = length m }) (trackOf m)
 carried-on m n e = λ i. record { owed = e i - length m; size = e i; from = 0; kept = length m }
 
--- granule g of n bytes
-module _ (fm : Format) (c : List ℕ) (starts g n : ℕ) (t : Track) (e : n ≡ fm .size g) where
-  pub pass-narrow : (n ≡ 20 → ⊥) → t ≡ trackAfter fm c starts g t
-  unfolding trackAfter
-  pass-narrow d =
-      let w : wide fm g ≡ false = ne-eqb (fm .size g) 20 (λ (z : fm .size g ≡ 20). d (e ∙ z)) in
-      rw (w, and-false (ltb 0 (t .owed)), and-false (bit starts g))
+-- granule g of n bytes, where a message of k bytes starts or none
+module _ (fm : Format) (g n : ℕ) (st : Bool) (k : ℕ) (t : Track) (e : n ≡ fm .size g) where
+  pub follow-narrow : (n ≡ 20 → ⊥) → t ≡ trackBy fm g st k t
+  follow-narrow d =
+      let w : wide fm g ≡ false = ne-eqb (fm .size g) 20 (λ (z : fm .size g ≡ 20). d (e ∙ z)) in rw (w, and-false (ltb 0 (t .owed)), and-false st)
 
   module _ (z : n ≡ 20) where
     is-wide : wide fm g ≡ true
     is-wide = eq-eqb (fm .size g) 20 (sym e ∙ z)
 
-    pub pass-on : 0 < t .owed → (r : Track)
+    pub follow-on : 0 < t .owed → (r : Track)
         → r ≡ pick (leb (t .owed) 20) noTrack (record { owed = t .owed - 20; size = t .size; from = t .from; kept = t .kept })
-        → r ≡ trackAfter fm c starts g t
-    unfolding trackAfter
-    pass-on h r q = q ∙ rw (lt-ltb 0 (t .owed) h, is-wide)
+        → r ≡ trackBy fm g st k t
+    follow-on h r q = q ∙ rw (lt-ltb 0 (t .owed) h, is-wide)
 
-    pub pass-start : t .owed ≤ 0 → (b : Bool) → b ≡ bit starts g → b ≡ true → (k : ℕ) → k ≡ msgSize (granule fm g c) → (r : Track)
+    pub follow-start : t .owed ≤ 0 → st ≡ true → (r : Track)
         → r ≡ pick (leb k 20) noTrack (record { owed = k - 20; size = k; from = g; kept = 0 })
-        → r ≡ trackAfter fm c starts g t
-    unfolding trackAfter
-    pass-start h b eb tb k ek r q =
-        let s : bit starts g ≡ true = sym eb ∙ tb in
-        q ∙ ap (λ (j : ℕ). pick {A = Track} (leb j 20) noTrack (record { owed = j - 20; size = j; from = g; kept = 0 })) ek
-        ∙ rw (le-ltb 0 (t .owed) h, s, is-wide)
+        → r ≡ trackBy fm g st k t
+    follow-start h s r q = q ∙ rw (le-ltb 0 (t .owed) h, s, is-wide)
 
-    pub pass-idle : t .owed ≤ 0 → (b : Bool) → b ≡ bit starts g → b ≡ false → t ≡ trackAfter fm c starts g t
-    unfolding trackAfter
-    pass-idle h b eb fb = let s : bit starts g ≡ false = sym eb ∙ fb in rw (le-ltb 0 (t .owed) h, s)
+    pub follow-idle : t .owed ≤ 0 → st ≡ false → t ≡ trackBy fm g st k t
+    follow-idle h s = rw (le-ltb 0 (t .owed) h, s)
+
+-- granule g of a container, where b says whether a message starts
+module _ (fm : Format) (c : List ℕ) (starts g : ℕ) (t : Track) {b : Bool} (eb : b ≡ bit starts g) where
+  pub pass-start : b ≡ true → {n : ℕ} → n ≡ msgSize (granule fm g c) → trackBy fm g true n t ≡ trackAfter fm c starts g t
+  unfolding trackAfter
+  pass-start s en = λ i. trackBy fm g ((sym s ∙ eb) i) (en i) t
+
+  pub pass-idle : b ≡ false → trackBy fm g false 0 t ≡ trackAfter fm c starts g t
+  unfolding trackAfter
+  pass-idle s = let z : bit starts g ≡ false = sym eb ∙ s in rw z
 
 -- the bytes of granule g as the code takes them
 pub wide-part : (fm : Format) (g a n : ℕ) (c : List ℕ) → a ≡ start g → n ≡ fm .size g → n ≡ 20 → take ((a + 20) - a) (drop a c) ≡ granule fm g c

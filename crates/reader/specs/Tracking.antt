@@ -30,14 +30,16 @@ noTrack = record { owed = 0; size = 0; from = 0; kept = 0 }
 abbrev pub trackOf : List ℕ → Track
 trackOf m = record { owed = owed m; size = msgSize m; from = 0; kept = length m }
 
--- after granule g: less is owed of a message that goes on, a longer message that starts is taken up, and what is whole is let go
-unfoldable pub trackAfter : Format → List ℕ → ℕ → ℕ → Track → Track
-trackAfter fm c starts g t =
+-- after granule g, where a message of n bytes starts or none: less is owed of a message that goes on, a longer message that starts is taken up, and what is whole is let go
+abbrev pub trackBy : Format → ℕ → Bool → ℕ → Track → Track
+trackBy fm g st n t =
     pick (ltb 0 (t .owed) && wide fm g)
     (pick (leb (t .owed) 20) noTrack (record { owed = t .owed - 20; size = t .size; from = t .from; kept = t .kept }))
-    (pick (bit starts g && wide fm g)
-    (pick (leb (msgSize (granule fm g c)) 20) noTrack (record { owed = msgSize (granule fm g c) - 20; size = msgSize (granule fm g c); from = g; kept = 0 }))
-    t)
+    (pick (st && wide fm g) (pick (leb n 20) noTrack (record { owed = n - 20; size = n; from = g; kept = 0 })) t)
+
+-- after granule g of a container
+unfoldable pub trackAfter : Format → List ℕ → ℕ → ℕ → Track → Track
+trackAfter fm c starts g t = trackBy fm g (bit starts g) (msgSize (granule fm g c)) t
 
 -- the track when granule g is reached
 unfoldable pub trackAt : Format → List ℕ → ℕ → Track → ℕ → Track
@@ -75,13 +77,13 @@ markOf e = pick (populated e) 1 0 + (4 * starting responses e + (32 * starting m
 abbrev pub cellFrom : Bool → Bool → List ℕ → Cell
 cellFrom on st b = record { goesOn = on; starts = st; bytes = b }
 
--- what judging a cell finds: its first fault, or its mark
-abbrev pub findingOf : Verdict → ℕ → Finding
-findingOf Sound n = Mark n
-findingOf (Faulty c p) n = Fault c
+-- what judging a cell finds: its first fault, or its mark and the size of the message that starts, 0 for none
+abbrev pub findingOf : Verdict → ℕ → ℕ → Finding
+findingOf Sound n k = Mark n k
+findingOf (Faulty c p) n k = Fault c
 
 unfoldable pub finding : Format → ℕ → Cell → Finding
-finding fm g e = findingOf (firstFault (cellChecks fm g e)) (markOf e)
+finding fm g e = findingOf (firstFault (cellChecks fm g e)) (markOf e) (starting msgSize e)
 
 -- the mark of a cell where a message starts, by type and op
 abbrev pub startMark : ℕ → ℕ → ℕ

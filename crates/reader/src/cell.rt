@@ -16,14 +16,15 @@ use container::starts_at;
 use message::count_miscs;
 use message::count_responses;
 use message::is_misc;
-use message::is_well_headed;
+use message::keeps_bytes;
+use message::keeps_grant;
+use message::look_up_size;
 use message::may_start;
-use message::measure_code;
 
-// What judging a granule finds: a fault, or the mark that its group and the header are judged by.
+// What judging a granule finds: a fault, or the mark that its group and the header are judged by and the size of the message that starts, 0 for none.
 pub enum Finding {
     Fault(Cause),
-    Mark(u8),
+    Mark(u8, usize),
 }
 
 // The mark of a granule where a message of this type and op starts.
@@ -52,22 +53,26 @@ fn judge_start(format: u32, g: u8, part: &[u8]) -> Finding
     requires { ⌜ (g < 12) × (length (now part) ≡ formatOf format .size g) ⌝ }
     ensures { λ r. ⌜ r ≡ finding (formatOf format) g (cellFrom false true (now (part .entry))) ⌝ }
 {
-    let kind = byte_at(part, 0) % 16;
+    let first = byte_at(part, 0);
     let op = byte_at(part, 1);
-    let size = measure_code(kind, op);
+    let kind = first % 16;
+    let size = look_up_size(kind, op);
     if size == 0 {
         return Finding::Fault(Cause::UnknownMessage);
     }
     if !may_start(format, g, kind, op) {
         return Finding::Fault(Cause::PlaceNotAllowed);
     }
-    if !is_well_headed(part) {
+    if !keeps_bytes(first, op, byte_at(part, 2)) {
+        return Finding::Fault(Cause::HeadWrong);
+    }
+    if !keeps_grant(kind, op, part) {
         return Finding::Fault(Cause::HeadWrong);
     }
     if !has_zero_rest(part, size) {
         return Finding::Fault(Cause::UnusedByteNotZero);
     }
-    Finding::Mark(mark_start(kind, op))
+    Finding::Mark(mark_start(kind, op), size)
 }
 
 // A granule of these bytes.
@@ -80,13 +85,13 @@ fn judge_part(format: u32, g: u8, on: bool, start: bool, part: &[u8]) -> Finding
         if start {
             return Finding::Fault(Cause::StartInsideMessage);
         }
-        return Finding::Mark(1);
+        return Finding::Mark(1, 0);
     }
     if start {
         return judge_start(format, g, part);
     }
     if is_zero(part) {
-        return Finding::Mark(0);
+        return Finding::Mark(0, 0);
     }
     Finding::Fault(Cause::UnusedByteNotZero)
 }

@@ -7,6 +7,7 @@ use crate::cell::Finding;
 use crate::cell::judge_cell;
 use crate::track::Track;
 use cause::Verdict;
+use container::starts_at;
 
 // The first fault, the marks of the granules, and the message in progress behind them.
 pub struct Scan {
@@ -36,11 +37,11 @@ pub fn scan_granules(format: u32, starts: u16, container: &[u8], carry: &[u8]) -
                     track: track,
                 };
             }
-            Finding::Mark(mark) => {
+            Finding::Mark(mark, size) => {
                 marks[g as usize] = mark;
+                track = track.follow(format, g, starts_at(starts, g), size);
             }
         }
-        track = track.pass(format, starts, container, g);
         g += 1;
     }
     Scan {

@@ -5,7 +5,7 @@ ghost use lib.Dec.{eqb, leb};
 ghost use Rattle.lists.specs.Pick.{pick};
 ghost use lib.ListN.{length};
 ghost use Rattle.container.specs.Layout.{formatOf};
-ghost use Rattle.reader.specs.Tracking.{noTrack, trackOf, trackAfter};
+ghost use Rattle.reader.specs.Tracking.{noTrack, trackOf, trackBy, trackAfter};
 use container::locate_granule;
 use container::measure_granule;
 use container::starts_at;
@@ -95,10 +95,9 @@ impl Track {
         }
     }
 
-    // The message in progress after granule g.
-    pub fn pass(self, format: u32, starts: u16, container: &[u8], g: u8) -> Track
-        requires { ⌜ (length (now container) ≡ 256) × (g < 12) ⌝ }
-        ensures { λ r. ⌜ r ≡ trackAfter (formatOf format) (now (container .entry)) starts g self ⌝ }
+    // The message in progress after granule g, where a message of this size starts if `start` says so.
+    pub fn follow(self, format: u32, g: u8, start: bool, size: usize) -> Track
+        ensures { λ r. ⌜ r ≡ trackBy (formatOf format) g start size self ⌝ }
     {
         if measure_granule(format, g) != 20 {
             return self;
@@ -106,11 +105,22 @@ impl Track {
         if 0 < self.owed {
             return self.advance();
         }
-        if starts_at(starts, g) {
-            let a = locate_granule(g);
-            let end = a + 20;
-            return Track::start(g, measure_message(&container[a..end]));
+        if start {
+            return Track::start(g, size);
         }
         self
+    }
+
+    // The message in progress after granule g.
+    pub fn pass(self, format: u32, starts: u16, container: &[u8], g: u8) -> Track
+        requires { ⌜ (length (now container) ≡ 256) × (g < 12) ⌝ }
+        ensures { λ r. ⌜ r ≡ trackAfter (formatOf format) (now (container .entry)) starts g self ⌝ }
+    {
+        if starts_at(starts, g) {
+            let a = locate_granule(g);
+            let end = a + measure_granule(format, g);
+            return self.follow(format, g, true, measure_message(&container[a..end]));
+        }
+        self.follow(format, g, false, 0)
     }
 }

@@ -24,8 +24,8 @@ judge-cell-requires c κs = (c .before .before .before .before .before .pre .0, 
 enum-known-found : tie.Need-enum-known-found Inv-loop μ-loop
 enum-known-found c = search needs
 
-cast-t13 : tie.Need-cast-t13 Inv-loop μ-loop
-cast-t13 c = omega arith
+cast-t14 : tie.Need-cast-t14 Inv-loop μ-loop
+cast-t14 c = omega arith
 
 returns : tie.Need-returns Inv-loop μ-loop
 returns c =
@@ -43,8 +43,11 @@ cast-marks c = omega arith
 array-write-marks : tie.Need-array-write-marks Inv-loop μ-loop
 array-write-marks c = omega arith
 
-pass-requires : tie.Need-pass-requires Inv-loop μ-loop
-pass-requires c κs = let at-loop = c .before .before .before .before .before in (at-loop .before .before .before .before .pre .0, c .before .before .before .before .loop-test .taken)
+starts-at-requires : tie.Need-starts-at-requires Inv-loop μ-loop
+starts-at-requires c κs = search needs
+
+follow-requires : tie.Need-follow-requires Inv-loop μ-loop
+follow-requires c κs = search needs
 
 add-g : tie.Need-add-g Inv-loop μ-loop
 add-g c = omega arith
@@ -54,11 +57,11 @@ loop-less c = omega arith
 
 loop-again : tie.Need-loop-again Inv-loop μ-loop
 loop-again c =
-    let told = c .before .before in
+    let told = c .before .before .before in
     let found = told .before .before in
     let at-loop = found .before .before in
     let start = at-loop .before .before .before .before in
-    scan-goes-on (start .args .format) (start .args .container .now) (start .args .carry .now) (at-loop .loop .g) (start .pre .0) (start .pre .1 .0) (start .pre .1 .1) (found .before .loop-test .taken) (at-loop .loop .inv) (found .judge-cell .ensures) (told .found2 .given .1) (c .pass .ensures)
+    scan-goes-on (start .args .format) (start .args .container .now) (start .args .carry .now) (at-loop .loop .g) (start .pre .0) (start .pre .1 .0) (start .pre .1 .1) (found .before .loop-test .taken) (at-loop .loop .inv) (found .judge-cell .ensures) (told .found2 .given .1) (c .before .starts-at .ensures) (c .follow .ensures)
 
 returns-2 : tie.Need-returns-2 Inv-loop μ-loop
 returns-2 c = scan-ends _ _ _ _ (c .loop-test .left) (c .before .loop .inv)
@@ -73,12 +76,13 @@ scan-granules-spec =
     loop-holds
     judge-cell-requires
     enum-known-found
-    cast-t13
+    cast-t14
     returns
     enum-known-found-2
     cast-marks
     array-write-marks
-    pass-requires
+    starts-at-requires
+    follow-requires
     add-g
     loop-less
     loop-again
