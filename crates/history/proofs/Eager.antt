@@ -12,6 +12,7 @@ use Rattle.history.specs.Link.{Direction, direction0, direction1, opposi
 use Rattle.history.specs.History.{Event, leaves, passes, arrives, frees, Entry, appendIf, left, passed, arrived, freed, tapRecord, stateAfter, total, ungranted, heldAtSender, buffered, Enabled, History, Tapped}
 use Rattle.history.specs.Books.{containersOf, Books}
 use Rattle.history.proofs.Order.{freed-by, append-one-direction, append-own}
+use Rattle.history.proofs.Conservation.{Readable, state-valid}
 use Rattle.history.proofs.Sound.{containers-passed}
 use Rattle.history.proofs.OneMore.{WithinWith, within-needs}
 
@@ -145,16 +146,22 @@ module _ (K : Link) where
     rw (append-own e c (passed e (eager t)), eager-passed e t, eager-arrived e t) (whole refl),
   )
 
+  pub books-read : (t : Trace (Entry Container)) → Books K t → (d : Direction) → Readable K d (containersOf d t)
+  books-read start b d = tt
+  books-read (t ▷ x) b d =
+      append-one-direction (λ d l. Readable K d l) (λ d. containersOf d t) (x .direction) (x .container)
+      (books-read t (b .0) (x .direction), b .1) (books-read t (b .0) (opposite (x .direction))) d
+
   module _ (L : Lawful K) where
     ended-freed : (e : Direction) (c : Container) (t : Trace (Entry Container)) (p : ℕ) (h : Trace (Event Container))
-        → reads e (stateAfter K e (containersOf e t)) c ≡ true
+        → Books K t → reads e (stateAfter K e (containersOf e t)) c ≡ true
         → freed e p (repeatEach (frees e) (ended e t c) pools h) ≡ freed e p h + ended e t c p
-    ended-freed e c t p h r = go (decLe pools p)
+    ended-freed e c t p h b r = go (decLe pools p)
       where
         go : Dec (pools ≤ p) → freed e p (repeatEach (frees e) (ended e t c) pools h) ≡ freed e p h + ended e t c p
         go (yes a) =
             let i = past-freed e (ended e t c) pools p h a in
-            let z = L .no-finish e (stateAfter K e (containersOf e t)) c p r a in
+            let z = L .no-finish e (stateAfter K e (containersOf e t)) c p (state-valid K L e (containersOf e t) (books-read t b e)) r a in
             omega arith
         go (no a) = each-freed e (ended e t c) pools p h (omega arith)
 
@@ -168,7 +175,7 @@ module _ (K : Link) where
         (λ d. containersOf d t)
         e
         c
-        (let i = ended-freed e c t p (cross e c (eager t)) (b .1) in let j = eager-freed e p t (b .0) in omega arith)
+        (let i = ended-freed e c t p (cross e c (eager t)) (b .0) (b .1) in let j = eager-freed e p t (b .0) in omega arith)
         (each-keeps (freed (opposite e) p) (frees e) (λ q. freed-elsewhere (opposite e) e p q (λ a _. opposite-differs e a)) _ pools _
         ∙ eager-freed (opposite e) p t (b .0))
         d

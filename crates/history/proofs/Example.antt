@@ -96,7 +96,7 @@ small-lawful n = record {
   next-ok = λ d s c r k. refl;
   no-grant = λ d s c p r h. none-elsewhere (smallGrants c) p h;
   no-begin = λ d s c p r h. none-elsewhere (smallBegins c) p h;
-  no-finish = λ d s c p r h. none-elsewhere (smallFinishes c) p h;
+  no-finish = λ d s c p k r h. none-elsewhere (smallFinishes c) p h;
 }
 
 -- the books of its audit close

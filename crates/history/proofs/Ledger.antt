@@ -13,7 +13,8 @@ use Rattle.history.specs.Books.{containersOf, granted, begun, finished, 
 use Rattle.history.specs.Audit.{fitsBelow, Ledger, directionOk, ledgerOk, creditsPaid, slotsTaken, entryOk, enter}
 use Rattle.history.proofs.Below.{below-fits, fits-below, equal-below}
 use Rattle.history.proofs.Order.{append-one-direction}
-use Rattle.history.proofs.Conservation.{Readable, state-valid, begun-or-carried}
+use Rattle.history.proofs.Conservation.{state-valid, begun-or-carried}
+use Rattle.history.proofs.Eager.{books-read}
 use Rattle.history.proofs.OneMore.{WithinWith, within-needs, within-suffices}
 
 module _ (K : Link) where
@@ -22,12 +23,6 @@ module _ (K : Link) where
   pub books-within : (t : Trace (Entry Container)) → Books K t → Within K t
   books-within start b d p = omega arith
   books-within (t ▷ x) b d p = b .2 d p
-
-  pub books-read : (t : Trace (Entry Container)) → Books K t → (d : Direction) → Readable K d (containersOf d t)
-  books-read start b d = tt
-  books-read (t ▷ x) b d =
-      append-one-direction (λ d l. Readable K d l) (λ d. containersOf d t) (x .direction) (x .container)
-      (books-read t (b .0) (x .direction), b .1) (books-read t (b .0) (opposite (x .direction))) d
 
   -- the ledger holds what the entries come to, and the entries keep the books
   pub record Agrees (t : Trace (Entry Container)) (l : Ledger K) : Type 0 where
@@ -106,11 +101,11 @@ module _ (K : Link) where
     unfinished-carried : (d : Direction) (p : ℕ) → l .unfinished d p ≡ carried (l .states d) p
     unfinished-carried d p =
         let u = a .unfinished-is d p in
-        let b = begun-or-carried K L d p (containersOf d t) (books-read t (a .books-kept) d) in
+        let b = begun-or-carried K L d p (containersOf d t) (books-read K t (a .books-kept) d) in
         rw (a .state-is d) (omega arith)
 
     ledger-state : (d : Direction) → stateOk d (l .states d) ≡ true
-    ledger-state d = rw (a .state-is d) (state-valid K L d (containersOf d t) (books-read t (a .books-kept) d))
+    ledger-state d = rw (a .state-is d) (state-valid K L d (containersOf d t) (books-read K t (a .books-kept) d))
 
     direction-valid : (d : Direction) → directionOk K l d ≡ true
     direction-valid d =

@@ -68,7 +68,8 @@ pub record Lawful (K : Link) : Type 0 where
   pub fresh-ok : (d : Direction) → K .stateOk d (K .fresh) ≡ true
   -- the state behind a container that reads is valid
   pub next-ok : (d : Direction) (s : K .State) (c : K .Container) → K .stateOk d s ≡ true → K .reads d s c ≡ true → K .stateOk d (K .next d s c) ≡ true
-  -- no container that reads grants to, pays or ends in a pool past the last
+  -- no container that reads grants to or pays a pool past the last, and none read in a valid state ends a message there
   pub no-grant : (d : Direction) (s : K .State) (c : K .Container) (p : ℕ) → K .reads d s c ≡ true → K .pools ≤ p → K .grants d s c p ≡ 0
   pub no-begin : (d : Direction) (s : K .State) (c : K .Container) (p : ℕ) → K .reads d s c ≡ true → K .pools ≤ p → K .begins d s c p ≡ 0
-  pub no-finish : (d : Direction) (s : K .State) (c : K .Container) (p : ℕ) → K .reads d s c ≡ true → K .pools ≤ p → K .finishes d s c p ≡ 0
+  pub no-finish : (d : Direction) (s : K .State) (c : K .Container) (p : ℕ) → K .stateOk d s ≡ true → K .reads d s c ≡ true → K .pools ≤ p
+      → K .finishes d s c p ≡ 0

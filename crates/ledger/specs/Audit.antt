@@ -22,6 +22,8 @@ use Rattle.ledger.specs.declared.ledger.Ledger.{Ledger}
 use Rattle.ledger.specs.declared.ledger.Answer.{Answer}
 use Rattle.ledger.specs.declared.ledger.Answer.the-variants as answer
 use Rattle.ledger.specs.declared.ledger.Step.{Step}
+use Rattle.ledger.specs.declared.ledger.Opened.{Opened}
+use Rattle.ledger.specs.declared.ledger.Report.{Report}
 
 -- the receiver of direction d, and the reader of its containers
 abbrev pub receiverOf : Ledger → ℕ → Receiver
@@ -101,10 +103,14 @@ auditChecks s d c =
     ++ (allGrants (receiverOf s (opposite d)) (granted s d c)
     ++ (heldChecks s d (begun s d c) 14 0 ++ roomChecks s (opposite d) (granted s d c) 14 0)))
 
--- k numbers from place i on of a table of two directions by fourteen pools
-unfoldable pub table : (ℕ → ℕ → ℕ) → ℕ → ℕ → List ℕ
-table f zero i = []
-table f (suc k) i = f (i / 14) (i % 14) ∷ table f k (i + 1)
+-- the numbers of pools p, p + 1, .., k of them
+unfoldable pub row : (ℕ → ℕ) → ℕ → ℕ → List ℕ
+row f zero p = []
+row f (suc k) p = f p ∷ row f k (p + 1)
+
+-- a table of two directions by fourteen pools, one direction behind the other
+abbrev pub table : (ℕ → ℕ → ℕ) → List ℕ
+table f = row (f 0) 14 0 ++ row (f 1) 14 0
 
 -- the numbers of direction e and pool p behind an accepted entry of direction d
 abbrev pub heldAfter : Ledger → ℕ → List ℕ → ℕ → ℕ → ℕ
@@ -122,8 +128,8 @@ nextLedger s d c = record {
   len0 = pick (eqb d 0) (nextReader (readerOf s d) c .len) (s .len0);
   carry1 = pick (eqb d 0) (s .carry1) (nextReader (readerOf s d) c .carry);
   len1 = pick (eqb d 0) (s .len1) (nextReader (readerOf s d) c .len);
-  held = table (heldAfter s d c) 28 0;
-  opened = table (openAfter s d c) 28 0;
+  held = table (heldAfter s d c);
+  opened = table (openAfter s d c);
 }
 
 abbrev pub answerOf : Verdict → Answer
@@ -137,7 +143,7 @@ auditing s d c = record {
   answer = answerOf (firstFault (auditChecks s d c));
 }
 
--- a ledger's start: counts zero, nothing carried
+-- a ledger's start: nothing carried, held or open
 abbrev pub freshLedger : ℕ → Receiver → Receiver → Ledger
 freshLedger f a b = record {
   format = f;
@@ -150,3 +156,17 @@ freshLedger f a b = record {
   held = replicate 28 0;
   opened = replicate 28 0;
 }
+
+-- a format and receivers are valid
+abbrev pub configured : ℕ → Receiver → Receiver → Bool
+configured f a b = ltb f 2 && (receiverOk a && receiverOk b)
+
+-- a new ledger; a configuration that is none is 19, beside a ledger that every step refuses
+abbrev pub opening : ℕ → Receiver → Receiver → Opened
+opening f a b = record { ledger = freshLedger f a b; verdict = pick (configured f a b) Sound (Faulty InvalidState 0) }
+
+-- the report of direction d and pool p: granted minus begun, and begun minus finished; 0 where there is no such pool
+abbrev pub reported : Ledger → ℕ → ℕ → Report
+reported s d p =
+    pick (ltb d 2 && ltb p 14) (record { held = record { 0 = heldOf s d p }; opened = record { 0 = openOf s d p } })
+    (record { held = record { 0 = 0 }; opened = record { 0 = 0 } })

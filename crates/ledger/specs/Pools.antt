@@ -63,14 +63,17 @@ paysPush Data = false
 paysPush RequestData = true
 paysPush Misc = false
 
--- cause 14 of a message, REQ before DAT: ResPlane is below N even where shared credit pays; a dedicated DAT charge needs its pool; a
--- WrReqData needs push
-abbrev pub messageChecks : Receiver → List ℕ → List Check
-messageChecks r m =
-    check (not (paysReq (classOf (typeOf m))) || ltb (resPlane (getD m 0 0)) (r .planes)) MissingPool (1 + resPlane (getD m 0 0))
-    ∷ check (not (paysData (classOf (typeOf m))) || (sharedCrdt (getD m 0 0) || hasPool r 12)) MissingPool 12
-    ∷ check (not (paysPush (classOf (typeOf m))) || (r .push && (eqb (getD m 1 0 % 2) 1 || hasPool r 13))) MissingPool 13
+-- cause 14 of a message, REQ before DAT, by its type and its bytes 0 and 1: ResPlane is below N even where shared credit pays; a dedicated
+-- DAT charge needs its pool; a WrReqData needs push
+abbrev pub paymentChecks : Receiver → ℕ → ℕ → ℕ → List Check
+paymentChecks r t first second =
+    check (not (paysReq (classOf t)) || ltb (resPlane first) (r .planes)) MissingPool (1 + resPlane first)
+    ∷ check (not (paysData (classOf t)) || (sharedCrdt first || hasPool r 12)) MissingPool 12
+    ∷ check (not (paysPush (classOf t)) || (r .push && (eqb (second % 2) 1 || hasPool r 13))) MissingPool 13
     ∷ []
+
+abbrev pub messageChecks : Receiver → List ℕ → List Check
+messageChecks r m = paymentChecks r (typeOf m) (getD m 0 0) (getD m 1 0)
 
 -- cause 14 of a grant, plane before DAT: with ShC 0, RP is below N whatever the counts, and a nonzero DAT count needs push and RP 0 or 1
 abbrev pub grantChecks : Receiver → Grant → List Check

@@ -1,6 +1,6 @@
 // Credits and slots, two kinds of count that are never mixed.
 ghost use mathlib.Core.Path.{_≡_};
-ghost use Prim.Native.Nat.{_+_};
+ghost use Prim.Native.Nat.{_+_, _-_, _≤_, _<_, _^_};
 ghost use lib.Dec.{leb};
 
 // Credits of one pool.
@@ -32,4 +32,42 @@ impl Slots {
     {
         self.0 <= capacity.0
     }
+}
+
+// Credits and more of them.
+pub fn add_credits(held: Credits, more: Credits) -> Credits
+    requires { ⌜ held .0 + more .0 < 2 ^ 32 ⌝ }
+    ensures { λ r. ⌜ r ≡ record { 0 = held .0 + more .0 } ⌝ }
+{
+    Credits(held.0 + more.0)
+}
+
+// What is left of credits behind a charge.
+pub fn spend_credits(held: Credits, charge: Credits) -> Credits
+    requires { ⌜ charge .0 ≤ held .0 ⌝ }
+    ensures { λ r. ⌜ r ≡ record { 0 = held .0 - charge .0 } ⌝ }
+{
+    Credits(held.0 - charge.0)
+}
+
+// What is left of a capacity beside slots.
+fn leave_slots(capacity: Slots, slots: Slots) -> Slots
+    requires { ⌜ slots .0 ≤ capacity .0 ⌝ }
+    ensures { λ r. ⌜ r ≡ record { 0 = capacity .0 - slots .0 } ⌝ }
+{
+    Slots(capacity.0 - slots.0)
+}
+
+// Whether credits held, credits granted and slots of open messages are within a capacity.
+pub fn fit_together(held: Credits, granted: Credits, opened: Slots, capacity: Slots) -> bool
+    ensures { λ r. ⌜ r ≡ leb (held .0 + (granted .0 + opened .0)) (capacity .0) ⌝ }
+{
+    if !held.claim().fit(capacity) {
+        return false;
+    }
+    let beside = leave_slots(capacity, held.claim());
+    if !granted.claim().fit(beside) {
+        return false;
+    }
+    opened.fit(leave_slots(beside, granted.claim()))
 }

@@ -1,6 +1,36 @@
 // The ledger: a state by value, and the audit of an entry.
+ghost use mathlib.Core.Path.{_≡_};
+ghost use mathlib.Core.Bool.{true, _&&_};
+ghost use Prim.Native.Nat.{_≤_, _<_};
+ghost use lib.ListN.{length};
+ghost use lib.Dec.{ltb};
+ghost use Rattle.cause.specs.Checks.{firstFault};
+ghost use Rattle.cause.specs.declared.Verdict.the-variants.{Sound};
+ghost use Rattle.container.specs.Layout.{formatOf, msgStart};
+ghost use Rattle.container.specs.Grants.{headerGrant};
+ghost use Rattle.reader.specs.Reading.{judgeChecks, nextReader, carried};
+ghost use Rattle.ledger.specs.Audit.{receiverOf, readerOf, directionOk, ledgerOk, configured, opening, auditing, reported};
+ghost use Rattle.ledger.specs.Counting.{pooled, resting, settling, entered, flattened};
+use crate::begun::tally_begun;
+use crate::books::judge_begun;
+use crate::books::judge_granted;
+use crate::books::keeps_books;
+use crate::books::settle_held;
+use crate::books::settle_opened;
+use crate::granted::tally_granted;
+use crate::idle::is_idle;
+use crate::kinds::Credits;
+use crate::kinds::Slots;
 use crate::receiver::Receiver;
+use crate::table::flatten;
+use crate::table::nest;
+use crate::tally::count_carry;
 use cause::Cause;
+use cause::Verdict;
+use container::Grant;
+use container::byte_at;
+use reader::Judgement;
+use reader::Reader;
 
 // A format, the receivers and the carries of both directions, and for each direction and pool, at 14 · direction + pool, the credits
 // held and the messages open.
@@ -26,4 +56,322 @@ pub enum Answer {
 pub struct Step {
     pub ledger: Ledger,
     pub answer: Answer,
+}
+
+// A new ledger, and whether its format and receivers are valid.
+pub struct Opened {
+    pub ledger: Ledger,
+    pub verdict: Verdict,
+}
+
+// The credits held and the slots of open messages, of one direction and pool.
+pub struct Report {
+    pub held: Credits,
+    pub opened: Slots,
+}
+
+// Whether a format and receivers are valid.
+fn is_configured(format: u32, receiver0: Receiver, receiver1: Receiver) -> bool
+    ensures { λ r. ⌜ r ≡ configured format receiver0 receiver1 ⌝ }
+{
+    if 2 <= format {
+        return false;
+    }
+    if receiver0.is_valid() {
+        return receiver1.is_valid();
+    }
+    false
+}
+
+impl Ledger {
+    // A ledger with nothing carried, held or open.
+    pub fn fresh(format: u32, receiver0: Receiver, receiver1: Receiver) -> Opened
+        ensures { λ r. ⌜ r ≡ opening format receiver0 receiver1 ⌝ }
+    {
+        let ledger = Ledger {
+            format: format,
+            receiver0: receiver0,
+            receiver1: receiver1,
+            carry0: [0u8; 100],
+            len0: 0,
+            carry1: [0u8; 100],
+            len1: 0,
+            held: [0u32; 28],
+            opened: [0u32; 28],
+        };
+        if is_configured(format, receiver0, receiver1) {
+            return Opened {
+                ledger: ledger,
+                verdict: Verdict::Sound,
+            };
+        }
+        Opened {
+            ledger: ledger,
+            verdict: Verdict::Faulty(Cause::InvalidState, 0),
+        }
+    }
+
+    // The receiver of a direction.
+    fn choose_receiver(self, direction: usize) -> Receiver
+        ensures { λ r. ⌜ r ≡ receiverOf self direction ⌝ }
+    {
+        if direction == 0 {
+            return self.receiver0;
+        }
+        self.receiver1
+    }
+
+    // The reader of a direction's containers.
+    fn choose_reader(self, direction: usize) -> Reader
+        ensures { λ r. ⌜ r ≡ readerOf self direction ⌝ }
+    {
+        if direction == 0 {
+            let carry = self.carry0;
+            return Reader {
+                format: self.format,
+                carry: carry,
+                len: self.len0,
+            };
+        }
+        let carry = self.carry1;
+        Reader {
+            format: self.format,
+            carry: carry,
+            len: self.len1,
+        }
+    }
+
+    // Whether the pools of a direction are in order, by its carry.
+    fn keeps_pools(self, direction: usize, receiver: Receiver, carry: &[u8]) -> bool
+        requires { ⌜ (direction < 2) × (receiver ≡ receiverOf self direction) ⌝ }
+        requires { ⌜ now carry ≡ carried (readerOf self direction) ⌝ }
+        ensures { λ r. ⌜ r ≡ pooled self direction ⌝ }
+    {
+        let first = byte_at(carry, 0);
+        let second = byte_at(carry, 1);
+        let verdict = receiver.judge_payment(first % 16, first, second);
+        if let Verdict::Faulty(_, _) = verdict {
+            return false;
+        }
+        let held = self.held;
+        let opened = self.opened;
+        let capacities = receiver.capacities;
+        keeps_books(
+            nest(held),
+            nest(opened),
+            direction,
+            count_carry(carry),
+            capacities,
+        )
+    }
+
+    // Whether a direction is valid: its receiver, its carry, and its pools.
+    fn is_direction_valid(self, direction: usize) -> bool
+        requires { ⌜ direction < 2 ⌝ }
+        ensures { λ r. ⌜ r ≡ directionOk self direction ⌝ }
+    {
+        let receiver = self.choose_receiver(direction);
+        if !receiver.is_valid() {
+            return false;
+        }
+        let reader = self.choose_reader(direction);
+        if !reader.is_valid() {
+            return false;
+        }
+        let carry = reader.carry;
+        let len = reader.len;
+        self.keeps_pools(direction, receiver, &carry[0..len])
+    }
+
+    // Whether the ledger is valid.
+    pub fn is_valid(self) -> bool
+        ensures { λ r. ⌜ r ≡ ledgerOk self ⌝ }
+    {
+        if self.is_direction_valid(0) {
+            return self.is_direction_valid(1);
+        }
+        false
+    }
+
+    // Whether an entry is idle: nothing is carried in its direction, and it has nothing but zeros outside the link header.
+    fn rests(self, direction: usize, container: &[u8]) -> bool
+        requires { ⌜ length (now container) ≡ 256 ⌝ }
+        ensures { λ r. ⌜ r ≡ resting self direction (now (container .entry)) ⌝ }
+    {
+        if direction == 0 {
+            if self.len0 != 0 {
+                return false;
+            }
+            return is_idle(self.format, container);
+        }
+        if self.len1 != 0 {
+            return false;
+        }
+        is_idle(self.format, container)
+    }
+
+    // A refused entry.
+    fn refuse(self, cause: Cause, place: u64) -> Step
+        ensures { λ r. ⌜ r ≡ record { ledger = self; answer = Answer.Refused cause place } ⌝ }
+    {
+        Step {
+            ledger: self,
+            answer: Answer::Refused {
+                cause: cause,
+                place: place,
+            },
+        }
+    }
+
+    // The ledger behind an accepted entry.
+    fn enter(self, direction: usize, next: Reader, held: [u32; 28], opened: [u32; 28]) -> Ledger
+        ensures { λ r. ⌜ r ≡ entered self direction next held opened ⌝ }
+    {
+        let mut ledger = self;
+        ledger.held = held;
+        ledger.opened = opened;
+        let carry = next.carry;
+        if direction == 0 {
+            ledger.carry0 = carry;
+            ledger.len0 = next.len;
+            return ledger;
+        }
+        ledger.carry1 = carry;
+        ledger.len1 = next.len;
+        ledger
+    }
+
+    // 15 and 16 by what the entry began and granted, and the ledger behind it.
+    fn settle(self, direction: usize, next: Reader, begun: [u32; 14], granted: [u32; 14]) -> Step
+        requires { ⌜ (direction < 2) × (next .len ≤ 100) ⌝ }
+        ensures { λ r. ⌜ r ≡ settling self direction next begun granted ⌝ }
+    {
+        let credits = self.held;
+        let held = nest(credits);
+        let short = judge_begun(held, direction, begun);
+        if let Verdict::Faulty(cause, place) = short {
+            return self.refuse(cause, place);
+        }
+        let messages = self.opened;
+        let opened = nest(messages);
+        let other = 1 - direction;
+        let receiver = self.choose_receiver(other);
+        let capacities = receiver.capacities;
+        let over = judge_granted(held, opened, other, granted, capacities);
+        if let Verdict::Faulty(cause, place) = over {
+            return self.refuse(cause, place);
+        }
+        let carry = next.carry;
+        let len = next.len;
+        let paid = count_carry(&carry[0..len]);
+        let held_after = flatten(settle_held(held, direction, begun, granted));
+        let opened_after = flatten(settle_opened(opened, direction, paid));
+        Step {
+            ledger: self.enter(direction, next, held_after, opened_after),
+            answer: Answer::Accepted,
+        }
+    }
+
+    // An entry that reads: 14 by its messages and its grants, then its pools.
+    fn audit_read(
+        self,
+        direction: usize,
+        container: &[u8],
+        next: Reader,
+        grant: Grant,
+        starts: u16,
+    ) -> Step
+        requires { ⌜ (direction < 2) × (ledgerOk self ≡ true) × (length (now container) ≡ 256) ⌝ }
+        requires { ⌜ firstFault (judgeChecks (readerOf self direction) (now container)) ≡ Sound ⌝ }
+        requires { ⌜ next ≡ nextReader (readerOf self direction) (now container) ⌝ }
+        requires { ⌜ (grant ≡ headerGrant (formatOf (self .format)) (now container)) × (starts ≡ msgStart (formatOf (self .format)) (now container)) ⌝ }
+        ensures { λ r. ⌜ r ≡ auditing self direction (now (container .entry)) ⌝ }
+    {
+        let begun = tally_begun(self.choose_receiver(direction), starts, container);
+        let first = begun.verdict;
+        if let Verdict::Faulty(cause, place) = first {
+            return self.refuse(cause, place);
+        }
+        let granted = tally_granted(
+            self.choose_receiver(1 - direction),
+            grant,
+            starts,
+            container,
+        );
+        let second = granted.verdict;
+        if let Verdict::Faulty(cause, place) = second {
+            return self.refuse(cause, place);
+        }
+        let paid = begun.counts;
+        let given = granted.counts;
+        self.settle(direction, next, paid, given)
+    }
+
+    // Whether a direction is one and the ledger is valid.
+    fn admits(self, direction: u32) -> bool
+        ensures { λ r. ⌜ r ≡ (ltb direction 2 && ledgerOk self) ⌝ }
+    {
+        if direction < 2 {
+            return self.is_valid();
+        }
+        false
+    }
+
+    // Audits an entry: a container of a direction.
+    pub fn audit(self, direction: u32, container: &[u8]) -> Step
+        ensures { λ r. ⌜ r ≡ auditing self direction (now (container .entry)) ⌝ }
+    {
+        if !self.admits(direction) {
+            return self.refuse(Cause::InvalidState, 0);
+        }
+        if container.len() != 256 {
+            return self.refuse(Cause::ContainerLength, 0);
+        }
+        audit_valid(self, direction as usize, container)
+    }
+
+    // The credits held and the messages open of a direction and pool, 0 where there is no such.
+    pub fn report(self, direction: u32, pool: u32) -> Report
+        ensures { λ r. ⌜ r ≡ reported self direction pool ⌝ }
+    {
+        if 2 <= direction {
+            return Report {
+                held: Credits(0),
+                opened: Slots(0),
+            };
+        }
+        if 14 <= pool {
+            return Report {
+                held: Credits(0),
+                opened: Slots(0),
+            };
+        }
+        let i = (14 * direction + pool) as usize;
+        Report {
+            held: Credits(self.held[i]),
+            opened: Slots(self.opened[i]),
+        }
+    }
+}
+
+// An entry of 256 bytes, from a valid ledger: what is idle is accepted as it is.
+pub fn audit_valid(ledger: Ledger, direction: usize, container: &[u8]) -> Step
+    requires { ⌜ (direction < 2) × (ledgerOk ledger ≡ true) × (length (now container) ≡ 256) ⌝ }
+    ensures { λ r. ⌜ r ≡ auditing ledger direction (now (container .entry)) ⌝ }
+{
+    if ledger.rests(direction, container) {
+        return Step {
+            ledger: ledger,
+            answer: Answer::Accepted,
+        };
+    }
+    let judged = ledger.choose_reader(direction).judge(container);
+    let judgement = judged.judgement;
+    match judgement {
+        Judgement::Refused { cause, place } => ledger.refuse(cause, place),
+        Judgement::Accepted { grant, starts } => {
+            let next = judged.reader;
+            ledger.audit_read(direction, container, next, grant, starts)
+        }
+    }
 }

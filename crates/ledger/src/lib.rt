@@ -1,11 +1,21 @@
 // The audit of both directions of a link: receivers, pools and the ledger (document 01, "Pools and the audit").
+mod begun;
+mod books;
+mod entries;
+mod granted;
+mod idle;
 mod kinds;
 mod ledger;
 mod receiver;
+mod table;
+mod tally;
 
+pub use entries::Run;
 pub use kinds::Credits;
 pub use kinds::Slots;
 pub use ledger::Answer;
 pub use ledger::Ledger;
+pub use ledger::Opened;
+pub use ledger::Report;
 pub use ledger::Step;
 pub use receiver::Receiver;

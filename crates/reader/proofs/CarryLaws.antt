@@ -281,9 +281,9 @@ with-valid f m e h l =
     (and-both (carryOk (take (length m) (pad 100 m))) (zeros (drop (length m) (pad 100 m))) c z))
 
 -- the reader after a container that is accepted is valid again
-pub next-valid : (s : Reader) (c : List ℕ) → firstFault (judgeChecks s c) ≡ Sound → length (s .carry) ≡ 100 → readerOk (nextReader s c) ≡ true
+pub next-valid : (s : Reader) (c : List ℕ) → firstFault (judgeChecks s c) ≡ Sound → readerOk (nextReader s c) ≡ true
 unfolding nextReader judgeChecks stateChecks
-next-valid s c e n =
+next-valid s c e =
     let p = sound-pass (judgeChecks s c) e in
     let r = reader-ok s (p .0) in
     let es = cells (formatOf (s .format)) c 12 0 (carried s) in

@@ -97,7 +97,7 @@ impl Reader {
     }
 
     // Whether the state is valid.
-    fn is_valid(self) -> bool
+    pub fn is_valid(self) -> bool
         ensures { λ r. ⌜ r ≡ readerOk self ⌝ }
     {
         let len = self.len;

@@ -1,0 +1,247 @@
+-- What an accepted entry has passed, and what it does to the books. Assumes nothing.
+use Prim.Native.Nat.{ℕ, zero, suc, _+_, _-_, _*_, _≤_, _<_}
+use mathlib.Core.Path.{_≡_, refl, sym, ap, _∙_}
+use mathlib.Core.Bool.{true, false, _&&_}
+use mathlib.Core.List.{List, _++_}
+use native.Mathlib.Omega.{arith}
+use native.Mathlib.Nat.{zero-add}
+use lib.ListN.{length, getD, List·getD-append}
+use lib.Seq.{getD-append-add}
+use lib.Dec.{eqb, ltb, leb}
+use borrow.Author.Tests.{eqb-true, ltb-true, leb-true, eq-eqb, ne-eqb, lt-ltb, le-leb}
+use Rattle.lists.proofs.Tests.{and-left, and-right, and-both}
+use Rattle.cause.specs.Checks.{Pass, firstFault}
+use Rattle.cause.specs.declared.Verdict.the-variants.{Sound}
+use Rattle.cause.proofs.CheckLaws.{sound-pass, pass-sound, pass-front, pass-back, pass-append}
+use Rattle.message.specs.Charges.{charges}
+use Rattle.reader.specs.Reading.{readerOk, carried, stateChecks, judgeChecks, nextReader}
+use Rattle.reader.specs.declared.reader.Reader.{Reader}
+use Rattle.reader.proofs.CarryLaws.{next-valid}
+use Rattle.ledger.specs.Pools.{receiverOk, messageChecks, allMessages, allGrants, chargedTo, paidTo, grantedTo}
+use Rattle.ledger.specs.Audit.{receiverOf, readerOf, heldOf, openOf, passes, ledgerOk, opposite, cellsOf, begun, finished, granted, heldChecks, roomChecks, auditChecks, row, table, heldAfter, openAfter, nextLedger}
+use Rattle.ledger.specs.declared.ledger.Ledger.{Ledger}
+use Rattle.ledger.specs.declared.receiver.Receiver.{Receiver}
+use Rattle.container.specs.declared.grant.Grant.{Grant}
+use Rattle.ledger.proofs.RowLaws.{row-at, length-row}
+use Rattle.ledger.proofs.ValidLaws.{ValidDirection, ledger-valid, valid-ledger}
+use Rattle.ledger.proofs.CarriedLaws.{paid-kept, next-passes}
+
+-- entry p of row e of a table
+pub table-at : (f : ℕ → ℕ → ℕ) (e p : ℕ) → e < 2 → p < 14 → getD (table f) (14 * e + p) 0 ≡ f e p
+table-at f zero p h k =
+    List·getD-append (row (f 0) 14 0) (row (f 1) 14 0) 0 (14 * 0 + p) (rw (length-row (f 0) 14 0) (omega arith))
+    ∙ ap (λ (i : ℕ). getD (row (f 0) 14 0) i 0) (omega arith) ∙ row-at (f 0) p k
+table-at f (suc zero) p h k =
+    ap (λ (i : ℕ). getD (table f) i 0) (rw (length-row (f 0) 14 0) (omega arith))
+    ∙ getD-append-add (row (f 0) 14 0) (row (f 1) 14 0) p 0 ∙ row-at (f 1) p k
+table-at f (suc (suc e)) p h k = absurd (omega arith)
+
+-- 15 and 16, pool by pool
+later : (p i : ℕ) → p + suc i ≡ (p + 1) + i
+later p i = omega arith
+
+held-at : (s : Ledger) (d : ℕ) (ms : List (List ℕ)) (k p i : ℕ) → Pass (heldChecks s d ms k p) → i < k → paidTo (p + i) ms ≤ heldOf s d (p + i)
+unfolding heldChecks
+held-at s d ms zero p i h b = absurd (omega arith)
+held-at s d ms (suc k) p zero h b =
+    let e : p + 0 ≡ p = omega arith in
+    rw e (leb-true (paidTo p ms) (heldOf s d p) (h .0))
+held-at s d ms (suc k) p (suc i) h b =
+    rw (later p i) (held-at s d ms k (p + 1) i (h .1) (omega arith))
+
+abbrev Fits : Ledger → ℕ → List Grant → ℕ → Type 0
+Fits s d ns p = heldOf s d p + (grantedTo p ns + openOf s d p) ≤ getD (receiverOf s d .capacities) p 0
+
+room-at : (s : Ledger) (d : ℕ) (ns : List Grant) (k p i : ℕ) → Pass (roomChecks s d ns k p) → i < k → Fits s d ns (p + i)
+unfolding roomChecks
+room-at s d ns zero p i h b = absurd (omega arith)
+room-at s d ns (suc k) p zero h b =
+    let e : p + 0 ≡ p = omega arith in
+    rw e (leb-true (heldOf s d p + (grantedTo p ns + openOf s d p)) (getD (receiverOf s d .capacities) p 0) (h .0))
+room-at s d ns (suc k) p (suc i) h b =
+    rw (later p i) (room-at s d ns k (p + 1) i (h .1) (omega arith))
+
+held-by : (s : Ledger) (d : ℕ) (ms : List (List ℕ)) (k p : ℕ) → ((i : ℕ) → i < k → paidTo (p + i) ms ≤ heldOf s d (p + i)) → Pass (heldChecks s d ms k p)
+unfolding heldChecks
+held-by s d ms zero p h = tt
+held-by s d ms (suc k) p h =
+    let e : p + 0 ≡ p = omega arith in
+    (le-leb (paidTo p ms) (heldOf s d p) (rw e at (h 0 (omega arith))), held-by s d ms k (p + 1) (λ i b. rw (later p i) at (h (suc i) (omega arith))))
+
+room-by : (s : Ledger) (d : ℕ) (ns : List Grant) (k p : ℕ) → ((i : ℕ) → i < k → Fits s d ns (p + i)) → Pass (roomChecks s d ns k p)
+unfolding roomChecks
+room-by s d ns zero p h = tt
+room-by s d ns (suc k) p h =
+    let e : p + 0 ≡ p = omega arith in (
+      le-leb (heldOf s d p + (grantedTo p ns + openOf s d p)) (getD (receiverOf s d .capacities) p 0) (rw e at (h 0 (omega arith))),
+      room-by s d ns k (p + 1) (λ i b. rw (later p i) at (h (suc i) (omega arith))),
+    )
+
+-- an entry that has passed every check
+pub record Accepted (s : Ledger) (d : ℕ) (c : List ℕ) : Type 0 where
+  pub direction : d < 2
+  pub ledger : ledgerOk s ≡ true
+  pub long : length c ≡ 256
+  pub reads : Pass (stateChecks (readerOf s d) c)
+  pub messages : Pass (allMessages (receiverOf s d) (begun s d c))
+  pub grants : Pass (allGrants (receiverOf s (opposite d)) (granted s d c))
+  pub covered : (p : ℕ) → p < 14 → paidTo p (begun s d c) ≤ heldOf s d p
+  pub fits : (p : ℕ) → p < 14 → Fits s (opposite d) (granted s d c) p
+
+module _ (s : Ledger) (d : ℕ) (c : List ℕ) where
+  pub accepted-by : firstFault (auditChecks s d c) ≡ Sound → Accepted s d c
+  unfolding auditChecks
+  accepted-by e =
+      let h = sound-pass (auditChecks s d c) e in
+      let state = stateChecks (readerOf s d) c in
+      let messages = allMessages (receiverOf s d) (begun s d c) in
+      let grants = allGrants (receiverOf s (opposite d)) (granted s d c) in
+      let held = heldChecks s d (begun s d c) 14 0 in
+      let room = roomChecks s (opposite d) (granted s d c) 14 0 in
+      let a = pass-back state (messages ++ (grants ++ (held ++ room))) (h .1 .1) in
+      let b = pass-back messages (grants ++ (held ++ room)) a in
+      let q = pass-back grants (held ++ room) b in
+      record {
+        direction = ltb-true d 2 (and-left (ltb d 2) (ledgerOk s) (h .0));
+        ledger = and-right (ltb d 2) (ledgerOk s) (h .0);
+        long = eqb-true (length c) 256 (h .1 .0);
+        reads = pass-front state (messages ++ (grants ++ (held ++ room))) (h .1 .1);
+        messages = pass-front messages (grants ++ (held ++ room)) a;
+        grants = pass-front grants (held ++ room) b;
+        covered = λ p i. rw (zero-add p) at (held-at s d (begun s d c) 14 0 p (pass-front held room q) i);
+        fits = λ p i. rw (zero-add p) at (room-at s (opposite d) (granted s d c) 14 0 p (pass-back held room q) i);
+      }
+
+  pub accepted-sound : Accepted s d c → firstFault (auditChecks s d c) ≡ Sound
+  unfolding auditChecks
+  accepted-sound a =
+      let state = stateChecks (readerOf s d) c in
+      let messages = allMessages (receiverOf s d) (begun s d c) in
+      let grants = allGrants (receiverOf s (opposite d)) (granted s d c) in
+      let held = heldChecks s d (begun s d c) 14 0 in
+      let room = roomChecks s (opposite d) (granted s d c) 14 0 in
+      let pools : Pass (held ++ room) = pass-append held room (held-by s d (begun s d c) 14 0 (λ i b. rw (zero-add i) (a .covered i b))) (room-by s (opposite d) (granted s d c) 14 0 (λ i b. rw (zero-add i) (a .fits i b))) in
+      pass-sound (auditChecks s d c) (
+        and-both (ltb d 2) (ledgerOk s) (lt-ltb d 2 (a .direction)) (a .ledger),
+        (
+          eq-eqb (length c) 256 (a .long),
+          pass-append state (messages ++ (grants ++ (held ++ room))) (a .reads) (pass-append messages (grants ++ (held ++ room)) (a .messages) (pass-append grants (held ++ room) (a .grants) pools)),
+        ),
+      )
+
+-- ---- the books behind an accepted entry
+-- the other of two directions
+opposite-below : (d : ℕ) → d < 2 → opposite d < 2
+opposite-below d h = omega arith
+
+opposite-differs : (d : ℕ) → d < 2 → eqb (opposite d) d ≡ false
+opposite-differs d h = ne-eqb (opposite d) d (λ (e : opposite d ≡ d). omega arith)
+
+-- the carry of the entry's direction is the next one, and that of the other is as it was
+pub reader-own : (s : Ledger) (d : ℕ) (c : List ℕ) → d < 2 → readerOf (nextLedger s d c) d ≡ nextReader (readerOf s d) c
+unfolding nextLedger nextReader
+reader-own s zero c h = refl
+reader-own s (suc zero) c h = refl
+reader-own s (suc (suc d)) c h = absurd (omega arith)
+
+pub reader-other : (s : Ledger) (d : ℕ) (c : List ℕ) → d < 2 → readerOf (nextLedger s d c) (opposite d) ≡ readerOf s (opposite d)
+unfolding nextLedger
+reader-other s zero c h = refl
+reader-other s (suc zero) c h = refl
+reader-other s (suc (suc d)) c h = absurd (omega arith)
+
+module _ (s : Ledger) (d : ℕ) (c : List ℕ) where
+  -- the numbers of the next ledger, direction by direction
+  pub held-next : (e p : ℕ) → e < 2 → p < 14 → heldOf (nextLedger s d c) e p ≡ heldAfter s d c e p
+  unfolding nextLedger
+  held-next e p h k = table-at (heldAfter s d c) e p h k
+
+  pub open-next : (e p : ℕ) → e < 2 → p < 14 → openOf (nextLedger s d c) e p ≡ openAfter s d c e p
+  unfolding nextLedger
+  open-next e p h k = table-at (openAfter s d c) e p h k
+
+  pub receivers-kept : (e : ℕ) → receiverOf (nextLedger s d c) e ≡ receiverOf s e
+  unfolding nextLedger
+  receivers-kept e = refl
+
+  module _ (a : Accepted s d c) where
+    here : ValidDirection s d
+    here = ledger-valid s d (a .ledger) (a .direction)
+
+    there : ValidDirection s (opposite d)
+    there = ledger-valid s (opposite d) (a .ledger) (opposite-below d (a .direction))
+
+    -- what was open and what begins is what finishes and what the next carry pays
+    kept : (p : ℕ) → p < 14 → openOf s d p + paidTo p (begun s d c) ≡ paidTo p (finished s d c) + chargedTo p (charges (carried (nextReader (readerOf s d) c)))
+    unfolding begun finished
+    kept p h =
+        let k = paid-kept (readerOf s d) c (here .reader) (a .long) (a .reads) p in
+        let u = here .unfinished p h in
+        omega arith
+
+    -- credits held: fewer by what begins, and in the opposite direction more by what is granted
+    pub held-own : (p : ℕ) → p < 14 → heldOf (nextLedger s d c) d p + paidTo p (begun s d c) ≡ heldOf s d p
+    held-own p h =
+        let b = a .covered p h in
+        rw (held-next d p (a .direction) h, eq-eqb d d refl) (omega arith)
+
+    pub held-other : (p : ℕ) → p < 14 → heldOf (nextLedger s d c) (opposite d) p ≡ heldOf s (opposite d) p + grantedTo p (granted s d c)
+    held-other p h = rw (held-next (opposite d) p (opposite-below d (a .direction)) h, opposite-differs d (a .direction))
+
+    -- no more finishes than was open or began
+    pub finished-covered : (p : ℕ) → p < 14 → paidTo p (finished s d c) ≤ openOf s d p + paidTo p (begun s d c)
+    finished-covered p h = let k = kept p h in omega arith
+
+    -- messages open: more by what begins, fewer by what finishes; in the opposite direction as they were
+    pub open-own : (p : ℕ) → p < 14 → openOf (nextLedger s d c) d p + paidTo p (finished s d c) ≡ openOf s d p + paidTo p (begun s d c)
+    open-own p h =
+        let b = finished-covered p h in
+        rw (open-next d p (a .direction) h, eq-eqb d d refl) (omega arith)
+
+    pub open-other : (p : ℕ) → p < 14 → openOf (nextLedger s d c) (opposite d) p ≡ openOf s (opposite d) p
+    open-other p h = rw (open-next (opposite d) p (opposite-below d (a .direction)) h, opposite-differs d (a .direction))
+
+    -- messages open are what the carry pays
+    pub open-carried : (p : ℕ) → p < 14 → openOf (nextLedger s d c) d p ≡ chargedTo p (charges (carried (nextReader (readerOf s d) c)))
+    open-carried p h =
+        let k = kept p h in
+        let o = open-own p h in
+        omega arith
+
+    judged : firstFault (judgeChecks (readerOf s d) c) ≡ Sound
+    unfolding judgeChecks
+    judged = pass-sound (judgeChecks (readerOf s d) c) (here .reader, (eq-eqb (length c) 256 (a .long), a .reads))
+
+    passed : passes (firstFault (messageChecks (receiverOf s d) (carried (nextReader (readerOf s d) c)))) ≡ true
+    unfolding begun
+    passed = next-passes (readerOf s d) c (here .reader) (a .long) (a .reads) (receiverOf s d) (here .carry) (a .messages)
+
+    own-valid : ValidDirection (nextLedger s d c) d
+    unfolding nextLedger
+    own-valid =
+        let e = reader-own s d c (a .direction) in
+        record {
+          receiver = here .receiver;
+          reader = ap readerOk e ∙ next-valid (readerOf s d) c judged;
+          carry = ap (λ (r : Reader). passes (firstFault (messageChecks (receiverOf s d) (carried r)))) e ∙ passed;
+          unfinished = λ p h. open-carried p h ∙ ap (λ (r : Reader). chargedTo p (charges (carried r))) (sym e);
+          room = λ p h. let o = open-own p h in let q = held-own p h in let r = here .room p h in let f = finished-covered p h in omega arith;
+        }
+
+    other-valid : ValidDirection (nextLedger s d c) (opposite d)
+    unfolding nextLedger
+    other-valid =
+        let e = reader-other s d c (a .direction) in
+        record {
+          receiver = there .receiver;
+          reader = ap readerOk e ∙ there .reader;
+          carry = ap (λ (r : Reader). passes (firstFault (messageChecks (receiverOf s (opposite d)) (carried r)))) e ∙ there .carry;
+          unfinished = λ p h. open-other p h ∙ there .unfinished p h ∙ ap (λ (r : Reader). chargedTo p (charges (carried r))) (sym e);
+          room = λ p h. let o = open-other p h in let q = held-other p h in let f = a .fits p h in omega arith;
+        }
+
+-- an accepted entry leaves a valid ledger
+pub next-ledger-valid : (s : Ledger) (d : ℕ) (c : List ℕ) → Accepted s d c → ledgerOk (nextLedger s d c) ≡ true
+next-ledger-valid s zero c a = valid-ledger (nextLedger s 0 c) (own-valid s 0 c a) (other-valid s 0 c a)
+next-ledger-valid s (suc zero) c a = valid-ledger (nextLedger s 1 c) (other-valid s 1 c a) (own-valid s 1 c a)
+next-ledger-valid s (suc (suc d)) c a = absurd (let b = a .direction in omega arith)

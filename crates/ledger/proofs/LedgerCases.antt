@@ -1,0 +1,75 @@
+-- The tests of a ledger as the code makes them, part by part. Assumes nothing.
+use Prim.Native.Nat.{ℕ, zero, suc, _+_, _%_, _≤_, _<_}
+use mathlib.Core.Path.{_≡_, refl, sym, ap, _∙_}
+use mathlib.Core.Bool.{Bool, true, false, _&&_, not}
+use mathlib.Core.List.{List, []}
+use native.Mathlib.Omega.{arith}
+use lib.ListN.{getD}
+use borrow.Author.Tests.{not-true, not-false}
+use Rattle.cause.specs.Checks.{firstFault}
+use Rattle.cause.specs.declared.Cause.{Cause}
+use Rattle.cause.specs.declared.Verdict.{Verdict}
+use Rattle.cause.specs.declared.Verdict.the-variants.{Sound, Faulty}
+use Rattle.message.specs.Charges.{charges}
+use Rattle.reader.specs.Reading.{readerOk, carried}
+use Rattle.reader.specs.declared.reader.Reader.{Reader}
+use Rattle.ledger.specs.Pools.{receiverOk, paymentChecks, messageChecks, chargedTo}
+use Rattle.ledger.specs.Audit.{receiverOf, readerOf, poolsOk, passes, directionOk, row}
+use Rattle.ledger.specs.Counting.{nested, rowsOk, pooled}
+use Rattle.ledger.specs.declared.receiver.Receiver.{Receiver}
+use Rattle.ledger.specs.declared.ledger.Ledger.{Ledger}
+use Rattle.ledger.proofs.RowLaws.{row-at}
+use Rattle.ledger.proofs.SettleLaws.{nested-entry}
+
+-- a test behind another
+module _ (a b : Bool) {t : Bool} (e : t ≡ a) where
+  pub first-fails : t ≡ false → false ≡ (a && b)
+  first-fails f = sym (ap (λ (x : Bool). x && b) (sym e ∙ f))
+
+  pub second-decides : t ≡ true → {u : Bool} → u ≡ b → u ≡ (a && b)
+  second-decides f g = g ∙ sym (ap (λ (x : Bool). x && b) (sym e ∙ f))
+
+-- the verdict on what is carried, by its first two bytes
+module _ (s : Ledger) (d : ℕ) {r : Receiver} (er : r ≡ receiverOf s d) {m : List ℕ} (em : m ≡ carried (readerOf s d)) {x y : ℕ} (ex : x ≡ getD m 0 0) (ey : y ≡ getD m 1 0)
+    {v : Verdict} (ev : v ≡ firstFault (paymentChecks r (x % 16) x y)) where
+  carry-verdict : v ≡ firstFault (messageChecks (receiverOf s d) (carried (readerOf s d)))
+  carry-verdict = ev ∙ (λ i. firstFault (paymentChecks r (ex i % 16) (ex i) (ey i))) ∙ (λ i. firstFault (messageChecks (er i) (em i)))
+
+  pub carry-faulty : {k : Cause} {p : ℕ} → v ≡ Faulty k p → false ≡ pooled s d
+  carry-faulty e = sym (ap (λ (w : Verdict). passes w && poolsOk s d 14 0) (sym carry-verdict ∙ e))
+
+  pub pools-decide : v ≡ Sound → {t : Bool} → t ≡ poolsOk s d 14 0 → t ≡ pooled s d
+  pools-decide e et = et ∙ sym (ap (λ (w : Verdict). passes w && poolsOk s d 14 0) (sym carry-verdict ∙ e))
+
+-- the pools of a direction by its rows
+module _ (s : Ledger) (d : ℕ) (h : d < 2) where
+  abbrev carriedRow : List ℕ → List ℕ
+  carriedRow m = row (λ p. chargedTo p (charges m)) 14 0
+
+  rows-pools : (k p : ℕ) → p + k ≤ 14
+      → rowsOk (getD (nested (s .held)) d []) (getD (nested (s .opened)) d []) (carriedRow (carried (readerOf s d))) (receiverOf s d .capacities) k p ≡ poolsOk s d k p
+  unfolding rowsOk poolsOk
+  rows-pools zero p b = refl
+  rows-pools (suc k) p b =
+      rw (nested-entry (s .held) d p h (omega arith), nested-entry (s .opened) d p h (omega arith), row-at (λ q. chargedTo q (charges (carried (readerOf s d)))) p (omega arith), rows-pools k (p + 1) (omega arith))
+
+  pub books-pools : {held opened : List (List ℕ)} → held ≡ nested (s .held) → opened ≡ nested (s .opened) → {m paid : List ℕ} → m ≡ carried (readerOf s d) → paid ≡ carriedRow m
+      → {r : Receiver} → r ≡ receiverOf s d → {t : Bool} → t ≡ rowsOk (getD held d []) (getD opened d []) paid (r .capacities) 14 0 → t ≡ poolsOk s d 14 0
+  books-pools eh eo em ep er et =
+      et ∙ (λ i. rowsOk (getD (eh i) d []) (getD (eo i) d []) ((ep ∙ ap carriedRow em) i) (er i .capacities) 14 0) ∙ rows-pools 14 0 (omega arith)
+
+-- a direction: its receiver, its reader, its pools
+module _ (s : Ledger) (d : ℕ) {r : Receiver} (er : r ≡ receiverOf s d) {t : Bool} (et : t ≡ receiverOk r) where
+  pub receiver-fails : not t ≡ true → false ≡ directionOk s d
+  receiver-fails n = first-fails (receiverOk (receiverOf s d)) (readerOk (readerOf s d) && pooled s d) (et ∙ ap receiverOk er) (not-true t n)
+
+  module _ (n : not t ≡ false) {q : Reader} (eq : q ≡ readerOf s d) {u : Bool} (eu : u ≡ readerOk q) where
+    pub reader-fails : not u ≡ true → false ≡ directionOk s d
+    reader-fails m =
+        second-decides (receiverOk (receiverOf s d)) (readerOk (readerOf s d) && pooled s d) (et ∙ ap receiverOk er) (not-false t n)
+        (first-fails (readerOk (readerOf s d)) (pooled s d) (eu ∙ ap readerOk eq) (not-true u m))
+
+    pub direction-decides : not u ≡ false → {w : Bool} → w ≡ pooled s d → w ≡ directionOk s d
+    direction-decides m ew =
+        second-decides (receiverOk (receiverOf s d)) (readerOk (readerOf s d) && pooled s d) (et ∙ ap receiverOk er) (not-false t n)
+        (second-decides (readerOk (readerOf s d)) (pooled s d) (eu ∙ ap readerOk eq) (not-false u m) ew)

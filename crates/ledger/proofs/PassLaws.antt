@@ -1,0 +1,99 @@
+-- A pass over twelve granules, each judged and then counted by pool. Assumes nothing.
+use Prim.Native.Nat.{ℕ, suc, _+_, _-_, _*_, _≤_, _<_}
+use mathlib.Core.Path.{_≡_, sym, ap, _∙_}
+use mathlib.Core.Bool.{Bool, true, false}
+use mathlib.Core.List.{List, [], _++_}
+use native.Mathlib.Omega.{arith}
+use lib.ListN.{length, getD}
+use Rattle.lists.specs.Pick.{pick}
+use Rattle.cause.specs.Checks.{Check, firstFault, orElse}
+use Rattle.cause.specs.declared.Cause.{Cause}
+use Rattle.cause.specs.declared.Verdict.{Verdict}
+use Rattle.cause.specs.declared.Verdict.the-variants.{Sound, Faulty}
+use Rattle.cause.proofs.CheckLaws.{first-append}
+use Rattle.ledger.specs.Counting.{raised, Small, Tallied}
+use Rattle.ledger.specs.declared.tally.Tally.{Tally}
+use Rattle.ledger.proofs.RowLaws.{row-same, row-equal}
+use Rattle.ledger.proofs.TallyLaws.{raised-at, raised-none, Counts, counts-raised}
+
+-- no verdict is both faulty and sound
+pub never-sound : {v : Verdict} {k : Cause} {n : ℕ} → v ≡ Faulty k n → v ≡ Sound → ⊥
+never-sound {v} {k} {n} e s = let z : _≡_ {A = ℕ} 0 1 = cc in omega arith
+
+-- checks behind others: the first list's fault is the fault of both, and the second list's counts where the first is sound
+module _ (a b : List Check) {v : Verdict} (u : v ≡ firstFault a) where
+  pub stops-before : {k : Cause} {n : ℕ} → v ≡ Faulty k n → v ≡ firstFault (a ++ b)
+  stops-before e = e ∙ sym (first-append a b ∙ ap (λ (x : Verdict). orElse x (firstFault b)) (sym u ∙ e))
+
+  pub goes-behind : v ≡ Sound → firstFault (a ++ b) ≡ firstFault b
+  goes-behind s = first-append a b ∙ ap (λ (x : Verdict). orElse x (firstFault b)) (sym u ∙ s)
+
+  pub tallied-before : {k : Cause} {n : ℕ} → v ≡ Faulty k n → (f : ℕ → ℕ) (d : List ℕ) → Tallied (a ++ b) f (record { verdict = v; counts = d })
+  tallied-before e f d = record { verdict = stops-before e; counts = λ s. absurd (never-sound e s) }
+
+  pub tallied-behind : v ≡ Sound → (f g : ℕ → ℕ) → ((p : ℕ) → p < 14 → f p ≡ g p) → {r : Tally} → Tallied b f r → Tallied (a ++ b) g r
+  tallied-behind s f g h t = record { verdict = t .verdict ∙ sym (goes-behind s); counts = λ z. t .counts z ∙ row-equal f g h }
+
+-- what is judged and counted only where a test holds
+module _ (t : Bool) (ks : List Check) (f : ℕ → ℕ) (l : List ℕ) where
+  pub passed-over : t ≡ false → length l ≡ 14 → (Sound ≡ firstFault (pick t ks [])) × (Sound ≡ Sound → l ≡ raised (λ p. pick t (f p) 0) l)
+  passed-over e n = (rw e, λ _. rw e (raised-none l n))
+
+  pub passed : t ≡ true → {v : Verdict} {d : List ℕ} → v ≡ firstFault ks → (v ≡ Sound → d ≡ raised f l)
+      → (v ≡ firstFault (pick t ks [])) × (v ≡ Sound → d ≡ raised (λ p. pick t (f p) 0) l)
+  passed e u w = (rw e u, λ s. rw e (w s))
+
+-- the checks of each granule and what it gives to each pool, and both of k granules from g on
+pub record Walk : Type 0 where
+  pub here : ℕ → List Check
+  pub gain : ℕ → ℕ → ℕ
+  pub rest : ℕ → ℕ → List Check
+  pub left : ℕ → ℕ → ℕ → ℕ
+
+pub record Walks (w : Walk) : Type 0 where
+  pub no-checks : (g : ℕ) → w .rest 0 g ≡ []
+  pub no-gains : (g p : ℕ) → w .left 0 g p ≡ 0
+  pub next-checks : (k g : ℕ) → w .rest (suc k) g ≡ w .here g ++ w .rest k (g + 1)
+  pub next-gains : (k g p : ℕ) → w .left (suc k) g p ≡ w .gain g p + w .left k (g + 1) p
+
+-- the loop's invariant
+pub record Walking (w : Walk) (checks : List Check) (total : ℕ → ℕ) (counts : List ℕ) (g : ℕ) : Type 0 where
+  pub within : g ≤ 12
+  pub few : Counts (255 * (g + 1)) counts
+  pub same : firstFault checks ≡ firstFault (w .rest (12 - g) g)
+  pub sums : (p : ℕ) → p < 14 → getD counts p 0 + w .left (12 - g) g p ≡ total p
+
+module _ {w : Walk} (x : Walks w) {checks : List Check} {total : ℕ → ℕ} {counts : List ℕ} {g : ℕ} (i : Walking w checks total counts g) where
+  pub walk-ends : 12 ≤ g → Tallied checks total (record { verdict = Sound; counts = counts })
+  walk-ends h =
+      let e : g ≡ 12 = let k = i .within in omega arith in
+      let j : Walking w checks total counts 12 = rw e at i in
+      record {
+        verdict = sym (j .same ∙ ap firstFault (x .no-checks 12));
+        counts = λ _. row-same total counts (j .few .long) (λ p b. omega (arith, j .sums p b, x .no-gains 12 p));
+      }
+
+  -- one granule
+  module _ (b : g < 12) where
+    one-less : 12 - g ≡ suc (12 - (g + 1))
+    one-less = omega arith
+
+    pub walk-fits : (length counts ≡ 14) × Small counts
+    walk-fits = (i .few .long, λ p. omega (arith, i .few .most p))
+
+    module _ {v : Verdict} (u : v ≡ firstFault (w .here g)) where
+      next : firstFault checks ≡ firstFault (w .here g ++ w .rest (12 - (g + 1)) (g + 1))
+      next = i .same ∙ ap (λ (k : ℕ). firstFault (w .rest k g)) one-less ∙ ap firstFault (x .next-checks (12 - (g + 1)) g)
+
+      pub walk-stops : {k : Cause} {n : ℕ} → v ≡ Faulty k n → (d : List ℕ) → Tallied checks total (record { verdict = v; counts = d })
+      walk-stops e d = record { verdict = stops-before (w .here g) (w .rest (12 - (g + 1)) (g + 1)) u e ∙ sym next; counts = λ s. absurd (never-sound e s) }
+
+      pub walk-on : v ≡ Sound → {d : List ℕ} → (v ≡ Sound → d ≡ raised (w .gain g) counts) → ((p : ℕ) → w .gain g p ≤ 255) → Walking w checks total d (g + 1)
+      walk-on s {d} r m =
+          let h : Counts (255 * (g + 1) + 255) d = counts-raised (w .gain g) (i .few) m (r s) in
+          record {
+            within = omega arith;
+            few = let e : 255 * (g + 1) + 255 ≡ 255 * ((g + 1) + 1) = omega arith in rw e at h;
+            same = next ∙ goes-behind (w .here g) (w .rest (12 - (g + 1)) (g + 1)) u s;
+            sums = λ p k. omega (arith, i .sums p k, ap (λ (n : ℕ). w .left n g p) one-less, x .next-gains (12 - (g + 1)) g p, raised-at (w .gain g) counts p k, ap (λ (y : List ℕ). getD y p 0) (r s));
+          }

@@ -1,0 +1,62 @@
+-- `ledger::ledger::Ledger::keeps_pools` meets its contract.
+use Rattle.ledger.proofs.LedgerCases.{carry-faulty, pools-decide, books-pools}
+use borrow.Author.Needs.{needs}
+use Rattle.ledger.proofs.ledger.Ledger.keeps_pools.Statement.{statement}
+use Rattle.ledger.proofs.ledger.Ledger.keeps_pools.Tie as tie
+
+byte-at-requires : tie.Need-byte-at-requires
+byte-at-requires c κs = search needs
+
+byte-at-requires-2 : tie.Need-byte-at-requires-2
+byte-at-requires-2 c κs = search needs
+
+judge-payment-requires : tie.Need-judge-payment-requires
+judge-payment-requires c κs = search needs
+
+enum-told : tie.Need-enum-told
+enum-told c = search needs
+
+returns : tie.Need-returns
+returns c =
+    let start = c .before .before .before .before .before .before in
+    carry-faulty (start .args .self) (start .args .direction) (start .pre .0 .1) (start .pre .1) (c .before .before .before .before .byte-at .ensures) (c .before .before .before .byte-at2 .ensures) (c .before .before .judge-payment .ensures) (c .enum-told .given .1)
+
+enum-told-2 : tie.Need-enum-told-2
+enum-told-2 c = search needs
+
+nest-requires : tie.Need-nest-requires
+nest-requires c κs = search needs
+
+nest-requires-2 : tie.Need-nest-requires-2
+nest-requires-2 c κs = search needs
+
+count-carry-requires : tie.Need-count-carry-requires
+count-carry-requires c κs = search needs
+
+keeps-books-requires : tie.Need-keeps-books-requires
+keeps-books-requires c κs = search needs
+
+returns-2 : tie.Need-returns-2
+returns-2 c =
+    let start = c .before .before .before .before .before .before .before .before .before .before .before .before .before in
+    let s = start .args .self in
+    let d = start .args .direction in
+    let judged = c .before .before .before .before .before .before .before .before .before in
+    pools-decide s d (start .pre .0 .1) (start .pre .1) (judged .before .before .byte-at .ensures) (judged .before .byte-at2 .ensures) (judged .judge-payment .ensures) (c .before .before .before .before .before .before .before .enum-told2 .given .1)
+    (books-pools s d (start .pre .0 .0) (c .before .before .before .nest .ensures) (c .before .before .nest2 .ensures) (start .pre .1) (c .before .count-carry .ensures) (start .pre .0 .1) (c .keeps-books .ensures))
+
+pub keeps-pools-spec : {M : Type 1} → statement M
+keeps-pools-spec =
+    tie.close
+    (tie.spec
+    byte-at-requires
+    byte-at-requires-2
+    judge-payment-requires
+    enum-told
+    returns
+    enum-told-2
+    nest-requires
+    nest-requires-2
+    count-carry-requires
+    keeps-books-requires
+    returns-2)

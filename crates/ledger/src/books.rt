@@ -1,0 +1,111 @@
+// The books of an entry: begun against held (cause 15), granted against capacity (cause 16), and the rows behind an accepted entry.
+ghost use mathlib.Core.Path.{_≡_};
+ghost use mathlib.Core.List.{[]};
+ghost use Prim.Native.Nat.{ℕ, _+_, _-_, _≤_, _<_, _^_};
+ghost use lib.ListN.{getD};
+ghost use Rattle.cause.specs.Checks.{firstFault};
+ghost use Rattle.ledger.specs.Counting.{shortChecks, overChecks, rowsOk, entryOf, rows, settledHeld, settledOpen};
+use crate::kinds::Credits;
+use crate::kinds::Slots;
+use crate::kinds::add_credits;
+use crate::kinds::fit_together;
+use crate::kinds::spend_credits;
+use cause::Cause;
+use cause::Verdict;
+
+// The lowest pool in which more is begun than held.
+pub fn judge_begun(held: [[u32; 14]; 2], direction: usize, begun: [u32; 14]) -> Verdict
+    requires { ⌜ direction < 2 ⌝ }
+    ensures { λ r. ⌜ r ≡ firstFault (shortChecks (getD held direction []) begun 14 0) ⌝ }
+{
+    let mut p: usize = 0;
+    while p < 14 {
+        if !Credits(held[direction][p]).cover(Credits(begun[p])) {
+            return Verdict::Faulty(Cause::BegunOverGranted, p as u64);
+        }
+        p += 1;
+    }
+    Verdict::Sound
+}
+
+// The lowest pool in which held, granted and open together are over the capacity.
+pub fn judge_granted(
+    held: [[u32; 14]; 2],
+    opened: [[u32; 14]; 2],
+    direction: usize,
+    granted: [u32; 14],
+    capacities: [u32; 14],
+) -> Verdict
+    requires { ⌜ direction < 2 ⌝ }
+    ensures { λ r. ⌜ r ≡ firstFault (overChecks (getD held direction []) (getD opened direction []) granted capacities 14 0) ⌝ }
+{
+    let mut p: usize = 0;
+    while p < 14 {
+        let credits = Credits(held[direction][p]);
+        let messages = Slots(opened[direction][p]);
+        if !fit_together(credits, Credits(granted[p]), messages, Slots(capacities[p])) {
+            return Verdict::Faulty(Cause::GrantedOverCapacity, p as u64);
+        }
+        p += 1;
+    }
+    Verdict::Sound
+}
+
+// Whether open messages are what the carry pays and held plus open is within capacity, in every pool.
+pub fn keeps_books(
+    held: [[u32; 14]; 2],
+    opened: [[u32; 14]; 2],
+    direction: usize,
+    paid: [u32; 14],
+    capacities: [u32; 14],
+) -> bool
+    requires { ⌜ direction < 2 ⌝ }
+    ensures { λ r. ⌜ r ≡ rowsOk (getD held direction []) (getD opened direction []) paid capacities 14 0 ⌝ }
+{
+    let mut p: usize = 0;
+    while p < 14 {
+        let messages = opened[direction][p];
+        if messages != paid[p] {
+            return false;
+        }
+        let credits = Credits(held[direction][p]);
+        if !fit_together(credits, Credits(0), Slots(messages), Slots(capacities[p])) {
+            return false;
+        }
+        p += 1;
+    }
+    true
+}
+
+// Credits held behind an entry: fewer where messages began, more in the other direction.
+pub fn settle_held(
+    held: [[u32; 14]; 2],
+    direction: usize,
+    begun: [u32; 14],
+    granted: [u32; 14],
+) -> [[u32; 14]; 2]
+    requires { ⌜ direction < 2 ⌝ }
+    requires { ⌜ ((p : ℕ) → getD begun p 0 ≤ entryOf held direction p) ⌝ }
+    requires { ⌜ ((p : ℕ) → entryOf held (1 - direction) p + getD granted p 0 < 2 ^ 32) ⌝ }
+    ensures { λ r. ⌜ r ≡ rows (settledHeld direction held begun granted) ⌝ }
+{
+    let mut next = held;
+    let other = 1 - direction;
+    let mut p: usize = 0;
+    while p < 14 {
+        next[direction][p] = spend_credits(Credits(held[direction][p]), Credits(begun[p])).0;
+        next[other][p] = add_credits(Credits(held[other][p]), Credits(granted[p])).0;
+        p += 1;
+    }
+    next
+}
+
+// Messages open behind an entry: in its direction, what the carry pays.
+pub fn settle_opened(opened: [[u32; 14]; 2], direction: usize, paid: [u32; 14]) -> [[u32; 14]; 2]
+    requires { ⌜ direction < 2 ⌝ }
+    ensures { λ r. ⌜ r ≡ rows (settledOpen direction opened paid) ⌝ }
+{
+    let mut next = opened;
+    next[direction] = paid;
+    next
+}
