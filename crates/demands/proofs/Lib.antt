@@ -1,2 +1,4 @@
 pub mod Refusals
 pub mod Packing
+pub mod TapLaws
+pub mod Books
