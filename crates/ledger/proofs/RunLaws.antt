@@ -57,13 +57,12 @@ run-not-valid s l e h =
 
 -- the entries so far: n of them were accepted, and what is left gives the whole
 pub record Running (first : Ledger) (l : List ℕ) (s : Ledger) (n at : ℕ) : Type 0 where
-  pub valid : ledgerOk s ≡ true
   pub place : at ≡ 257 * n
   pub inside : at ≤ length l
   pub rest : running (length l - n) s n l ≡ runOver first l
 
-pub running-none : (s : Ledger) (l : List ℕ) → ledgerOk s ≡ true → Running s l s 0 0
-running-none s l e = record { valid = e; place = omega arith; inside = omega arith; rest = ap (λ (k : ℕ). running k s 0 l) (omega arith) }
+pub running-none : (s : Ledger) (l : List ℕ) → Running s l s 0 0
+running-none s l = record { place = omega arith; inside = omega arith; rest = ap (λ (k : ℕ). running k s 0 l) (omega arith) }
 
 module _ (first : Ledger) (l : List ℕ) (s : Ledger) (n at : ℕ) (r : Running first l s n at) where
   more : at + 257 ≤ length l → length l - n ≡ suc (length l - (n + 1))
@@ -85,12 +84,17 @@ module _ (first : Ledger) (l : List ℕ) (s : Ledger) (n at : ℕ) (r : Running 
     running-more q =
         let a = sym (ap (λ (x : Step). x .answer) e) ∙ q in
         record {
-          valid = ap (λ (x : Step). ledgerOk (x .ledger)) e ∙ accepted-valid s (directionAt l n) (containerAt l n) a;
           place = let p = r .place in omega arith;
           inside = h;
           rest = ap (λ (x : Step). running (length l - (n + 1)) (x .ledger) (n + 1) l) e
               ∙ run-goes-on s n l (length l - (n + 1)) (room h) a ∙ ap (λ (k : ℕ). running k s n l) (sym (more h)) ∙ r .rest;
         }
+
+    -- an accepted entry leaves a valid ledger
+    pub running-valid : t .answer ≡ Accepted → ledgerOk (t .ledger) ≡ true
+    running-valid q =
+        ap (λ (x : Step). ledgerOk (x .ledger)) e
+        ∙ accepted-valid s (directionAt l n) (containerAt l n) (sym (ap (λ (x : Step). x .answer) e) ∙ q)
 
 -- the entry that lies at byte `at`
 pub entry-at : (s : Ledger) (l : List ℕ) (n at : ℕ) → at ≡ 257 * n

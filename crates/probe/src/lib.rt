@@ -1,4 +1,6 @@
-// The judging and the filling of containers, for tests and benchmarks written in C.
+// The judging, the filling and the audit of containers, for tests and benchmarks written in C.
+mod audit;
+
 ghost use mathlib.Core.Path.{_≡_};
 ghost use lib.ListN.{length};
 ghost use Rattle.probe.specs.Judge.{judgeCode};

@@ -1,0 +1,15 @@
+-- `probe::audit::c2c_audit_count` meets its contract.
+use mathlib.Core.Path.{ap}
+use Rattle.ledger.specs.declared.entries.Run.{Run}
+use borrow.Author.Needs.{needs}
+use Rattle.probe.proofs.audit.c2c_audit_count.Statement.{statement}
+use Rattle.probe.proofs.audit.c2c_audit_count.Tie as tie
+
+run-entries-requires : tie.Need-run-entries-requires
+run-entries-requires c κs = search needs
+
+returns : tie.Need-returns
+returns c = ap (λ (r : Run). r .accepted) (c .run-entries .ensures)
+
+pub c2c-audit-count-spec : {M : Type 1} → statement M
+c2c-audit-count-spec = tie.close (tie.spec run-entries-requires returns)

@@ -1,0 +1,19 @@
+-- `probe::audit::c2c_audit_each` meets its contract.
+use mathlib.Core.Path.{ap, _∙_}
+use Rattle.ledger.specs.declared.entries.Run.{Run}
+use Rattle.probe.specs.Audit.{causeOf}
+use borrow.Author.Needs.{needs}
+use Rattle.probe.proofs.audit.c2c_audit_each.Statement.{statement}
+use Rattle.probe.proofs.audit.c2c_audit_each.Tie as tie
+
+run-each-requires : tie.Need-run-each-requires
+run-each-requires c κs = search needs
+
+tell-cause-requires : tie.Need-tell-cause-requires
+tell-cause-requires c κs = search needs
+
+returns : tie.Need-returns
+returns c = c .tell-cause .ensures ∙ ap (λ (r : Run). causeOf (r .answer)) (c .before .run-each .ensures)
+
+pub c2c-audit-each-spec : {M : Type 1} → statement M
+c2c-audit-each-spec = tie.close (tie.spec run-each-requires tell-cause-requires returns)
