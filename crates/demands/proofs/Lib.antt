@@ -2,3 +2,4 @@ pub mod Refusals
 pub mod Packing
 pub mod TapLaws
 pub mod Books
+pub mod Examples

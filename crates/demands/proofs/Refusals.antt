@@ -15,6 +15,7 @@ use Rattle.reader.specs.Reading.{readChecks, judgeChecks, nextReader, records, 
 use Rattle.reader.specs.Reading as reader
 use Rattle.reader.specs.declared.reader.Answer.the-variants as read
 use Rattle.reader.proofs.AnswerLaws.{refused-faulty}
+use Rattle.ledger.proofs.AnswerLaws.{refused-same}
 use Rattle.writer.specs.Filling.{fillFault, filling, fillBytes}
 use Rattle.writer.specs.Filling as writer
 use Rattle.writer.specs.declared.writer.Answer.the-variants as fill
@@ -40,4 +41,5 @@ demand1 = record {
   judge-state = λ s c k p e. unchanged _ _ _ k p (refused-faulty (firstFault (judgeChecks s c)) (headerGrant (formatOf (s .format)) c) (msgStart (formatOf (s .format)) c) k p e);
   fill-state = λ w l n c k p e. unchanged _ _ _ k p (fill-faulty (fillFault w l n (length c)) _ k p e);
   fill-memory = λ w l n c k p e. unchanged _ _ _ k p (fill-faulty (fillFault w l n (length c)) _ k p e);
+  audit-state = refused-same;
 }

@@ -10,6 +10,9 @@ use Rattle.reader.specs.Reading.{reading, readRoom, judging}
 use Rattle.reader.specs.declared.reader.Reader.{Reader}
 use Rattle.reader.specs.declared.reader.Answer.the-variants as read
 use Rattle.reader.specs.declared.reader.Judgement.the-variants as judge
+use Rattle.ledger.specs.Audit.{auditing}
+use Rattle.ledger.specs.declared.ledger.Ledger.{Ledger}
+use Rattle.ledger.specs.declared.ledger.Answer.the-variants as audit
 use Rattle.writer.specs.Filling.{filling, fillBytes}
 use Rattle.writer.specs.declared.writer.Writer.{Writer}
 use Rattle.writer.specs.declared.writer.Answer.the-variants as fill
@@ -24,3 +27,5 @@ pub record Demand1 : Type 0 where
   -- the writer, with any list, any grant and any container
   pub fill-state : (w : Writer) (l : List ℕ) (n : Grant) (c : List ℕ) (k : Cause) (p : ℕ) → filling w l n (length c) .answer ≡ fill.Refused k p → filling w l n (length c) .writer ≡ w
   pub fill-memory : (w : Writer) (l : List ℕ) (n : Grant) (c : List ℕ) (k : Cause) (p : ℕ) → filling w l n (length c) .answer ≡ fill.Refused k p → fillBytes w l n c ≡ c
+  -- the audit, with any ledger, any direction number and any container; it lends no memory
+  pub audit-state : (s : Ledger) (d : ℕ) (c : List ℕ) (k : Cause) (p : ℕ) → auditing s d c .answer ≡ audit.Refused k p → auditing s d c .ledger ≡ s

@@ -1,0 +1,33 @@
+-- The marked examples by computation. Assumes nothing.
+use mathlib.Core.Path.{refl}
+use Rattle.record.specs.Number.{number, readNumber}
+use Rattle.record.specs.Records.{faultFrom, listFault}
+use Rattle.reader.specs.Cells.{cells, carryAfter, endings, startings}
+use Rattle.reader.specs.Checking.{granuleChecks, groupChecks, containerChecks}
+use Rattle.reader.specs.Reading.{stateChecks, readChecks, nextReader, records, reading}
+use Rattle.writer.specs.Plan.{plan}
+use Rattle.writer.specs.Laying.{setAll, layCells, containerOf, filled}
+use Rattle.writer.specs.Filling.{callChecks, fillFault, fillBytes}
+use Rattle.ledger.specs.Pools.{capacitiesOk, allMessages, allGrants, paidTo, grantedTo, grantsIn}
+use Rattle.ledger.specs.Audit.{poolsOk, begun, finished, granted, heldChecks, roomChecks, auditChecks, row, nextLedger, auditing}
+use Rattle.demands.specs.Marked.{Marked}
+
+pub marked : Marked
+unfolding number readNumber faultFrom listFault cells carryAfter endings startings granuleChecks groupChecks containerChecks stateChecks readChecks nextReader records reading plan setAll layCells containerOf filled callChecks fillFault fillBytes capacitiesOk allMessages allGrants paidTo grantedTo grantsIn poolsOk begun finished granted heldChecks roomChecks auditChecks row nextLedger auditing
+marked = record {
+  m1-x = refl;
+  m1-y = refl;
+  m2 = refl;
+  m3 = refl;
+  m3-read = refl;
+  m4 = refl;
+  m5 = refl;
+  m6 = refl;
+  m7 = refl;
+  m8 = refl;
+  m8-refused = refl;
+  m9 = refl;
+  m9-read = refl;
+  m9-broken = refl;
+  m10 = refl;
+}
