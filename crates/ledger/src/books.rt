@@ -7,9 +7,7 @@ ghost use Rattle.cause.specs.Checks.{firstFault};
 ghost use Rattle.ledger.specs.Counting.{shortChecks, overChecks, rowsOk, entryOf, rows, settledHeld, settledOpen};
 use crate::kinds::Credits;
 use crate::kinds::Slots;
-use crate::kinds::add_credits;
 use crate::kinds::fit_together;
-use crate::kinds::spend_credits;
 use cause::Cause;
 use cause::Verdict;
 
@@ -75,6 +73,22 @@ pub fn keeps_books(
         p += 1;
     }
     true
+}
+
+// Credits and more of them.
+fn add_credits(held: Credits, more: Credits) -> Credits
+    requires { ⌜ held .0 + more .0 < 2 ^ 32 ⌝ }
+    ensures { λ r. ⌜ r ≡ record { 0 = held .0 + more .0 } ⌝ }
+{
+    Credits(held.0 + more.0)
+}
+
+// What is left of credits behind a charge.
+fn spend_credits(held: Credits, charge: Credits) -> Credits
+    requires { ⌜ charge .0 ≤ held .0 ⌝ }
+    ensures { λ r. ⌜ r ≡ record { 0 = held .0 - charge .0 } ⌝ }
+{
+    Credits(held.0 - charge.0)
 }
 
 // Credits held behind an entry: fewer where messages began, more in the other direction.

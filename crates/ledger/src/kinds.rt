@@ -1,6 +1,6 @@
 // Credits and slots, two kinds of count that are never mixed.
 ghost use mathlib.Core.Path.{_≡_};
-ghost use Prim.Native.Nat.{_+_, _-_, _≤_, _<_, _^_};
+ghost use Prim.Native.Nat.{_+_, _-_, _≤_};
 ghost use lib.Dec.{leb};
 
 // Credits of one pool.
@@ -32,22 +32,6 @@ impl Slots {
     {
         self.0 <= capacity.0
     }
-}
-
-// Credits and more of them.
-pub fn add_credits(held: Credits, more: Credits) -> Credits
-    requires { ⌜ held .0 + more .0 < 2 ^ 32 ⌝ }
-    ensures { λ r. ⌜ r ≡ record { 0 = held .0 + more .0 } ⌝ }
-{
-    Credits(held.0 + more.0)
-}
-
-// What is left of credits behind a charge.
-pub fn spend_credits(held: Credits, charge: Credits) -> Credits
-    requires { ⌜ charge .0 ≤ held .0 ⌝ }
-    ensures { λ r. ⌜ r ≡ record { 0 = held .0 - charge .0 } ⌝ }
-{
-    Credits(held.0 - charge.0)
 }
 
 // What is left of a capacity beside slots.

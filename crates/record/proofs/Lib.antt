@@ -1,4 +1,4 @@
 pub mod NumberLaws
 pub mod EncodeLaws
 pub mod RecordLaws
-pub mod Marked
+pub mod NumberEdges

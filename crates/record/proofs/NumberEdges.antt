@@ -1,22 +1,9 @@
--- M9 of document 01: 300 is AC 02, and 80 00 is broken; and the edges of the other reasons.
+-- The edges of what is a number, by computation. Assumes nothing.
 use Prim.Native.Nat.{ℕ}
 use mathlib.Core.Path.{_≡_, refl}
 use mathlib.Core.List.{List, [], _∷_}
 use Rattle.record.specs.Number.{number, readNumber}
 use Rattle.record.specs.declared.number.Number.the-variants.{Broken, Value}
-
--- M9
-pub three-hundred : number 300 ≡ 0xAC ∷ 0x02 ∷ []
-unfolding number
-three-hundred = refl
-
-pub three-hundred-read : readNumber (0xAC ∷ 0x02 ∷ 7 ∷ []) ≡ Value 300 2
-unfolding readNumber
-three-hundred-read = refl
-
-pub longer-form : readNumber (0x80 ∷ 0x00 ∷ []) ≡ Broken
-unfolding readNumber
-longer-form = refl
 
 -- the largest number, one over it, a sixth group, and a number that the list cuts short
 pub largest-read : readNumber (0xFF ∷ 0xFF ∷ 0xFF ∷ 0xFF ∷ 0x0F ∷ []) ≡ Value 4_294_967_295 5
