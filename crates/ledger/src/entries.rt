@@ -7,7 +7,6 @@ ghost use Rattle.ledger.specs.Run.{runOver};
 use crate::ledger::Answer;
 use crate::ledger::Ledger;
 use crate::ledger::Step;
-use crate::ledger::audit_valid;
 use cause::Cause;
 
 // The ledger behind the entries, how many were accepted, and the last answer.
@@ -31,7 +30,7 @@ fn audit_entry(ledger: Ledger, direction: u8, container: &[u8]) -> Step
             },
         };
     }
-    audit_valid(ledger, direction as usize, container)
+    ledger.audit_valid(direction as usize, container)
 }
 
 // The entries of a list, each a direction and the 256 bytes of a container, from a valid ledger.

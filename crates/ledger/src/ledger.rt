@@ -184,7 +184,7 @@ impl Ledger {
     }
 
     // Whether the ledger is valid.
-    pub fn is_valid(self) -> bool
+    pub(crate) fn is_valid(self) -> bool
         ensures { λ r. ⌜ r ≡ ledgerOk self ⌝ }
     {
         if self.is_direction_valid(0) {
@@ -307,6 +307,28 @@ impl Ledger {
         self.settle(direction, next, paid, given)
     }
 
+    // An entry of 256 bytes, from a valid ledger: what is idle is accepted as it is.
+    pub(crate) fn audit_valid(self, direction: usize, container: &[u8]) -> Step
+        requires { ⌜ (direction < 2) × (ledgerOk self ≡ true) × (length (now container) ≡ 256) ⌝ }
+        ensures { λ r. ⌜ r ≡ auditing self direction (now (container .entry)) ⌝ }
+    {
+        if self.rests(direction, container) {
+            return Step {
+                ledger: self,
+                answer: Answer::Accepted,
+            };
+        }
+        let judged = self.choose_reader(direction).judge(container);
+        let judgement = judged.judgement;
+        match judgement {
+            Judgement::Refused { cause, place } => self.refuse(cause, place),
+            Judgement::Accepted { grant, starts } => {
+                let next = judged.reader;
+                self.audit_read(direction, container, next, grant, starts)
+            }
+        }
+    }
+
     // Whether a direction is one and the ledger is valid.
     fn admits(self, direction: u32) -> bool
         ensures { λ r. ⌜ r ≡ (ltb direction 2 && ledgerOk self) ⌝ }
@@ -327,7 +349,7 @@ impl Ledger {
         if container.len() != 256 {
             return self.refuse(Cause::ContainerLength, 0);
         }
-        audit_valid(self, direction as usize, container)
+        self.audit_valid(direction as usize, container)
     }
 
     // The credits held and the messages open of a direction and pool, 0 where there is no such.
@@ -350,28 +372,6 @@ impl Ledger {
         Report {
             held: Credits(self.held[i]),
             opened: Slots(self.opened[i]),
-        }
-    }
-}
-
-// An entry of 256 bytes, from a valid ledger: what is idle is accepted as it is.
-pub fn audit_valid(ledger: Ledger, direction: usize, container: &[u8]) -> Step
-    requires { ⌜ (direction < 2) × (ledgerOk ledger ≡ true) × (length (now container) ≡ 256) ⌝ }
-    ensures { λ r. ⌜ r ≡ auditing ledger direction (now (container .entry)) ⌝ }
-{
-    if ledger.rests(direction, container) {
-        return Step {
-            ledger: ledger,
-            answer: Answer::Accepted,
-        };
-    }
-    let judged = ledger.choose_reader(direction).judge(container);
-    let judgement = judged.judgement;
-    match judgement {
-        Judgement::Refused { cause, place } => ledger.refuse(cause, place),
-        Judgement::Accepted { grant, starts } => {
-            let next = judged.reader;
-            ledger.audit_read(direction, container, next, grant, starts)
         }
     }
 }

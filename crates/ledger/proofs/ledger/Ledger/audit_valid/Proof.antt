@@ -1,4 +1,4 @@
--- `ledger::ledger::audit_valid` meets its contract.
+-- `ledger::ledger::Ledger::audit_valid` meets its contract.
 use mathlib.Core.Path.{_≡_, sym, ap, _∙_}
 use lib.ListN.{length}
 use Rattle.reader.specs.Reading.{judging}
@@ -8,8 +8,8 @@ use Rattle.ledger.specs.Audit.{readerOf}
 use Rattle.ledger.proofs.IdleTheorem.{idle-accepted}
 use Rattle.ledger.proofs.AuditLaws.{read-refused}
 use borrow.Author.Needs.{needs}
-use Rattle.ledger.proofs.ledger.audit_valid.Statement.{statement}
-use Rattle.ledger.proofs.ledger.audit_valid.Tie as tie
+use Rattle.ledger.proofs.ledger.Ledger.audit_valid.Statement.{statement}
+use Rattle.ledger.proofs.ledger.Ledger.audit_valid.Tie as tie
 
 rests-requires : tie.Need-rests-requires
 rests-requires c κs = search needs
@@ -17,13 +17,13 @@ rests-requires c κs = search needs
 returns : tie.Need-returns
 returns c =
     let start = c .before .before .before in
-    let s = start .args .ledger in
+    let s = start .args .self in
     let n0 : length (s .carry0) ≡ 100 = search needs in
     let n1 : length (s .carry1) ≡ 100 = search needs in
     let tables = start .good .0 .1 .1 .1 .1 .1 .1 .1 .1 .1 in
     let nh : length (s .held) ≡ 28 = search (needs, tables .0) in
     let nw : length (s .opened) ≡ 28 = search (needs, tables .1) in
-    sym (idle-accepted (start .args .ledger) (start .args .direction) (start .args .container .now) (start .pre .0) (start .pre .1) (start .pre .2) n0 n1 nh nw (sym (c .before .rests .ensures) ∙ c .if1 .taken))
+    sym (idle-accepted (start .args .self) (start .args .direction) (start .args .container .now) (start .pre .0) (start .pre .1) (start .pre .2) n0 n1 nh nw (sym (c .before .rests .ensures) ∙ c .if1 .taken))
 
 choose-reader-requires : tie.Need-choose-reader-requires
 choose-reader-requires c κs = search needs
@@ -45,7 +45,7 @@ audit-read-requires c κs =
     let start = c .before .before .before .before .before .before .before .before .before in
     let at-judge = c .before .before .before .before in
     let reader = c .before .before .before .before .before in
-    let s = start .args .ledger in
+    let s = start .args .self in
     let d = start .args .direction in
     let b = start .args .container .now in
     let made : at-judge .judge .result ≡ judging (readerOf s d) b = at-judge .judge .ensures ∙ ap (λ (r : Reader). judging r b) (reader .choose-reader .ensures) in
@@ -57,7 +57,7 @@ returns-2 c =
     let start = c .before .before .before .before .before .before .before .before .before in
     let at-judge = c .before .before .before .before in
     let reader = c .before .before .before .before .before in
-    let s = start .args .ledger in
+    let s = start .args .self in
     let d = start .args .direction in
     let b = start .args .container .now in
     let made : at-judge .judge .result ≡ judging (readerOf s d) b = at-judge .judge .ensures ∙ ap (λ (r : Reader). judging r b) (reader .choose-reader .ensures) in
