@@ -21,3 +21,14 @@ pub mod LedgerCases
 pub mod AuditLaws
 pub mod AnswerLaws
 pub mod RunLaws
+pub mod NumberTakes
+pub mod SettingLaws
+pub mod LogSteps
+pub mod LogStates
+pub mod LogLoops
+pub mod SettingValid
+pub mod LogCalls
+pub mod CutTheorem
+pub mod AgainTheorem
+pub mod AcceptedTheorem
+pub mod MarkedLogs

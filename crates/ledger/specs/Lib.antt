@@ -3,3 +3,7 @@ pub mod Audit
 pub mod Idle
 pub mod Counting
 pub mod Run
+pub mod Log
+pub mod Stream
+pub mod Cutting
+pub mod Calls

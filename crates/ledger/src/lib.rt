@@ -1,11 +1,13 @@
 // The audit of both directions of a link: receivers, pools and the ledger (document 01, "Pools and the audit").
 mod begun;
 mod books;
+mod configuration;
 mod entries;
 mod granted;
 mod idle;
 mod kinds;
 mod ledger;
+mod log;
 mod receiver;
 mod table;
 mod tally;
@@ -18,4 +20,8 @@ pub use ledger::Ledger;
 pub use ledger::Opened;
 pub use ledger::Report;
 pub use ledger::Step;
+pub use log::Consumed;
+pub use log::LogReader;
+pub use log::LogVerdict;
+pub use log::Outcome;
 pub use receiver::Receiver;

@@ -23,7 +23,7 @@ pub struct Receiver {
 
 impl Receiver {
     // Whether a pool exists.
-    fn has_pool(self, pool: u32) -> bool
+    pub(crate) fn has_pool(self, pool: u32) -> bool
         ensures { λ r. ⌜ r ≡ hasPool self pool ⌝ }
     {
         if pool == 12 {

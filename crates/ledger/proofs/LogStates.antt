@@ -1,0 +1,91 @@
+-- What keeps a ledger valid, and what a valid state of the log says. Assumes nothing.
+use Prim.Native.Nat.{ℕ, _+_, _*_, _%_, _≤_}
+use mathlib.Core.Path.{_≡_, refl, sym, ap, _∙_}
+use mathlib.Core.Bool.{Bool, true, _&&_}
+use mathlib.Core.List.{List}
+use lib.ListN.{length, take, drop}
+use lib.Dec.{ltb, leb, eqb}
+use borrow.Author.Tests.{leb-true, le-leb, ne-eqb}
+use Rattle.lists.specs.Pick.{pick}
+use Rattle.lists.proofs.Tests.{and-left, and-right, and-both}
+use Rattle.lists.proofs.PickLaws.{pick-both}
+use Rattle.cause.specs.Checks.{firstFault, whenSound}
+use Rattle.cause.specs.declared.Verdict.{Verdict}
+use Rattle.cause.specs.declared.Verdict.the-variants.{Sound, Faulty}
+use Rattle.record.specs.Number.{readNumber}
+use Rattle.record.specs.declared.number.Number.{Number}
+use Rattle.record.specs.declared.number.Number.the-variants.{Broken, Value}
+use Rattle.ledger.specs.Audit.{ledgerOk, auditChecks, auditing, nextLedger}
+use Rattle.ledger.specs.Log.{Next, over, onward, nextOf, framed, judged}
+use Rattle.ledger.specs.Stream.{most, Running, validState}
+use Rattle.ledger.specs.declared.ledger.Ledger.{Ledger}
+use Rattle.ledger.specs.declared.ledger.Answer.{Answer}
+use Rattle.ledger.specs.declared.ledger.Answer.the-variants as answer
+use Rattle.ledger.specs.declared.log.LogReader.{LogReader}
+use Rattle.ledger.proofs.AcceptedLaws.{accepted-by, next-ledger-valid}
+
+-- ---- an entry
+
+-- the ledger behind a verdict on the checks
+kept-by : (s : Ledger) (d : ℕ) (c : List ℕ) (v : Verdict) → firstFault (auditChecks s d c) ≡ v → ledgerOk s ≡ true
+    → ledgerOk (whenSound v (nextLedger s d c) s) ≡ true
+kept-by s d c Sound e h = next-ledger-valid s d c (accepted-by s d c e)
+kept-by s d c (Faulty k p) e h = h
+
+-- an audit leaves a valid ledger, whether it accepts or refuses
+pub audit-keeps : (s : Ledger) (d : ℕ) (c : List ℕ) → ledgerOk s ≡ true → ledgerOk (auditing s d c .ledger) ≡ true
+unfolding auditing
+audit-keeps s d c h = kept-by s d c (firstFault (auditChecks s d c)) refl h
+
+abbrev pub Keeps : Next → Type 0
+Keeps (over v) = Unit {0}
+Keeps (onward next u) = ledgerOk next ≡ true
+
+keeps-judged : (e u : ℕ) (next : Ledger) (a : Answer) → ledgerOk next ≡ true → Keeps (judged e u next a)
+keeps-judged e u next (answer.Refused c p) h = tt
+keeps-judged e u next answer.Accepted h = h
+
+keeps-framed : (s : Ledger) (e o : ℕ) (l : List ℕ) (r : Number) → ledgerOk s ≡ true → Keeps (framed s e o l r)
+keeps-framed s e o l Broken h = tt
+keeps-framed s e o l (Value v u) h =
+    pick-both Keeps (ltb (length l) (u + 256)) tt
+    (keeps-judged e (u + 256) (auditing s (v % 2) (take 256 (drop u l)) .ledger) (auditing s (v % 2) (take 256 (drop u l)) .answer)
+    (audit-keeps s (v % 2) (take 256 (drop u l)) h))
+
+pub next-keeps : (s : Ledger) (e o : ℕ) (l : List ℕ) → ledgerOk s ≡ true → Keeps (nextOf s e o l)
+unfolding nextOf
+next-keeps s e o l h = keeps-framed s e o l (readNumber l) h
+
+-- ---- a state
+
+pub running-valid : (s : LogReader) → Running s → validState s ≡ true
+unfolding validState
+running-valid s r =
+    ap (λ (t : Bool). pick t (eqb (s .entries) 0) (leb (s .entries) most && (leb (s .offset) (165 + 261 * s .entries) && ledgerOk (s .ledger)))) (ne-eqb (s .offset) 0 (r .begun))
+    ∙ and-both (leb (s .entries) most) (leb (s .offset) (165 + 261 * s .entries) && ledgerOk (s .ledger)) (le-leb (s .entries) most (r .few))
+    (and-both (leb (s .offset) (165 + 261 * s .entries)) (ledgerOk (s .ledger)) (le-leb (s .offset) (165 + 261 * s .entries) (r .near)) (r .kept))
+
+valid-begun : (s : LogReader) → validState s ≡ true → (s .offset ≡ 0 → ⊥)
+    → (leb (s .entries) most && (leb (s .offset) (165 + 261 * s .entries) && ledgerOk (s .ledger))) ≡ true
+unfolding validState
+valid-begun s v g =
+    ap (λ (t : Bool). pick t (eqb (s .entries) 0) (leb (s .entries) most && (leb (s .offset) (165 + 261 * s .entries) && ledgerOk (s .ledger)))) (sym (ne-eqb (s .offset) 0 g)) ∙ v
+
+pub valid-running : (s : LogReader) → validState s ≡ true → (s .offset ≡ 0 → ⊥) → Running s
+valid-running s v g =
+    let all = valid-begun s v g in
+    let near = and-right (leb (s .entries) most) (leb (s .offset) (165 + 261 * s .entries) && ledgerOk (s .ledger)) all in
+    record {
+      few = leb-true (s .entries) most (and-left (leb (s .entries) most) (leb (s .offset) (165 + 261 * s .entries) && ledgerOk (s .ledger)) all);
+      near = leb-true (s .offset) (165 + 261 * s .entries) (and-left (leb (s .offset) (165 + 261 * s .entries)) (ledgerOk (s .ledger)) near);
+      begun = g;
+      kept = and-right (leb (s .offset) (165 + 261 * s .entries)) (ledgerOk (s .ledger)) near;
+    }
+
+-- where its counts are in their bounds, a state is valid by its ledger
+pub valid-last : (s : LogReader) → (s .offset ≡ 0 → ⊥) → s .entries ≤ most → s .offset ≤ 165 + 261 * s .entries → validState s ≡ ledgerOk (s .ledger)
+unfolding validState
+valid-last s g few near =
+    ap (λ (t : Bool). pick t (eqb (s .entries) 0) (leb (s .entries) most && (leb (s .offset) (165 + 261 * s .entries) && ledgerOk (s .ledger)))) (ne-eqb (s .offset) 0 g)
+    ∙ ap (λ (t : Bool). t && (leb (s .offset) (165 + 261 * s .entries) && ledgerOk (s .ledger))) (le-leb (s .entries) most few)
+    ∙ ap (λ (t : Bool). t && ledgerOk (s .ledger)) (le-leb (s .offset) (165 + 261 * s .entries) near)

@@ -1,0 +1,128 @@
+// The configuration of a log: its numbers, judged as they are read, and the ledger that they start.
+ghost use mathlib.Core.Path.{_≡_};
+ghost use Prim.Native.Nat.{_≤_, _<_};
+ghost use lib.ListN.{take, drop};
+ghost use Rattle.cause.specs.declared.Verdict.the-variants.{Faulty};
+ghost use Rattle.ledger.specs.Log.{receiverAt, suits, valueOk, settingOf, settingBy, ledgerOf};
+use crate::ledger::Ledger;
+use crate::receiver::Receiver;
+use cause::Cause;
+use cause::Verdict;
+use record::Number;
+use record::read_number;
+
+// The numbers of a configuration, its bytes, and whether it is one.
+pub struct Configuration {
+    pub numbers: [u32; 33],
+    pub used: usize,
+    pub verdict: Verdict,
+}
+
+// The fourteen capacities from `start` on.
+fn take_capacities(numbers: [u32; 33], start: usize) -> [u32; 14]
+    requires { ⌜ start ≤ 19 ⌝ }
+    ensures { λ r. ⌜ r ≡ take 14 (drop start numbers) ⌝ }
+{
+    let mut out = [0u32; 14];
+    for i in 0..14 {
+        out[i] = numbers[start + i];
+    }
+    out
+}
+
+// The receiver of the sixteen numbers from `start` on.
+fn take_receiver(numbers: [u32; 33], start: usize) -> Receiver
+    requires { ⌜ start ≤ 17 ⌝ }
+    ensures { λ r. ⌜ r ≡ receiverAt numbers start ⌝ }
+{
+    let capacities = take_capacities(numbers, start + 2);
+    Receiver {
+        planes: numbers[start],
+        push: numbers[start + 1] == 1,
+        capacities: capacities,
+    }
+}
+
+// Whether a value may be the number at a place of a receiver's sixteen.
+fn suits_receiver(receiver: Receiver, place: u32, value: u32) -> bool
+    ensures { λ r. ⌜ r ≡ suits receiver place value ⌝ }
+{
+    if place == 0 {
+        if value < 1 {
+            return false;
+        }
+        return value <= 8;
+    }
+    if place == 1 {
+        return value < 2;
+    }
+    if 1023 < value {
+        return false;
+    }
+    if value == 0 {
+        return true;
+    }
+    receiver.has_pool(place - 2)
+}
+
+// Whether a value may be number i of a configuration, behind the numbers before it.
+fn suits_place(numbers: [u32; 33], i: usize, value: u32) -> bool
+    requires { ⌜ i < 33 ⌝ }
+    ensures { λ r. ⌜ r ≡ valueOk numbers i value ⌝ }
+{
+    if i == 0 {
+        return value < 2;
+    }
+    let start = (i - 1) / 16 * 16 + 1;
+    let place = (i - 1) % 16;
+    suits_receiver(take_receiver(numbers, start), place as u32, value)
+}
+
+// No configuration.
+fn refuse_numbers(numbers: [u32; 33], cause: Cause, place: u64) -> Configuration
+    ensures { λ r. ⌜ r .verdict ≡ Faulty cause place ⌝ }
+{
+    Configuration {
+        numbers: numbers,
+        used: 0,
+        verdict: Verdict::Faulty(cause, place),
+    }
+}
+
+// The configuration at the front of the bytes: each number is judged for its form and then for its value.
+pub fn read_configuration(bytes: &[u8]) -> Configuration
+    ensures { λ r. ⌜ settingBy (r .numbers) (r .used) (r .verdict) ≡ settingOf (now (bytes .entry)) ⌝ }
+{
+    let mut numbers = [0u32; 33];
+    let mut at = 0;
+    for i in 0..33 {
+        let number = read_number(&bytes[at..]);
+        match number {
+            Number::Broken => {
+                return refuse_numbers(numbers, Cause::BrokenRecord, at as u64);
+            }
+            Number::Value { value, used } => {
+                if !suits_place(numbers, i, value) {
+                    return refuse_numbers(numbers, Cause::InvalidState, 0);
+                }
+                numbers[i] = value;
+                at += used;
+            }
+        }
+    }
+    Configuration {
+        numbers: numbers,
+        used: at,
+        verdict: Verdict::Sound,
+    }
+}
+
+// The ledger that a configuration starts.
+pub fn start_ledger(numbers: [u32; 33]) -> Ledger
+    ensures { λ r. ⌜ r ≡ ledgerOf numbers ⌝ }
+{
+    let first = take_receiver(numbers, 1);
+    let second = take_receiver(numbers, 17);
+    let opened = Ledger::fresh(numbers[0], first, second);
+    opened.ledger
+}
