@@ -69,8 +69,7 @@ loop-again : tie.Need-loop-again Inv-loop μ-loop
 loop-again c =
     let read = c .before .before .before .before .before .before .before .before in
     let at-loop = read .before .before .before in
-    let same : length (read .read-more .last .0) ≡ length (at-loop .loop .buf) = search needs in
-    (
+    let same : length (read .read-more .last .0) ≡ length (at-loop .loop .buf) = search needs in (
       same ∙ at-loop .loop .inv .0,
       omega (arith, used-within (c .before .before .before .consume .result) (at-loop .loop .reader) (read .read-more .last .0) (read .read-more .result - 0) _ (c .before .before .before .consume .ensures)),
       read .read-more .ensures,
