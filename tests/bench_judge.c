@@ -4,66 +4,23 @@
 #include <string.h>
 #include <time.h>
 
+#include "layout.h"
 #include "plain.h"
+#include "traffic.h"
 
 uint32_t c2c_judge(uint32_t format, const uint8_t *container, size_t container_len);
 
-enum { BYTES = 256, GRANULES = 12, COUNT = 512, DAMAGED = 200000, ROUNDS = 15, TURNS = 20, PROFILES = 4 };
+enum { COUNT = 512, DAMAGED = 200000, ROUNDS = 15, TURNS = 20, PROFILES = 4 };
 
 static const char *const profile_name[PROFILES] = {"idle", "mixed", "dense", "dense, short"};
-static uint8_t containers[PROFILES][2][COUNT][BYTES];
-static uint64_t seed = 0x9E3779B97F4A7C15u;
-
-/* The next number of a fixed sequence, below n. */
-static unsigned draw(unsigned n) {
-    seed ^= seed << 13;
-    seed ^= seed >> 7;
-    seed ^= seed << 17;
-    return (unsigned)((seed >> 24) % n);
-}
-
-static unsigned header_place(unsigned format, unsigned i) {
-    static const uint8_t x[10] = {126, 127, 188, 189, 190, 191, 252, 253, 254, 255};
-    return format == 0 ? x[i] : 246 + i;
-}
-
-static unsigned granule_size(unsigned format, unsigned g) {
-    return format == 1 && g == 5 ? 16 : format == 1 && g == 11 ? 10 : 20;
-}
-
-static unsigned granule_start(unsigned g) {
-    return 64 * (g / 3) + 20 * (g % 3);
-}
-
-/* Fills a message of a type and op with a right head; answers its size. */
-static unsigned make_message(unsigned type, unsigned op, uint8_t *m) {
-    static const uint8_t sizes[10] = {0, 20, 40, 10, 20, 20, 80, 100, 100, 120};
-    static const uint8_t ops[5] = {10, 10, 16, 10, 20};
-    unsigned size = type == 10 ? ops[op] : sizes[type];
-    for (unsigned i = 0; i < size; i++)
-        m[i] = (uint8_t)draw(256);
-    unsigned flags = type <= 2 || type >= 8 ? draw(16) : type >= 6 ? draw(2) : 0;
-    m[0] = (uint8_t)(type + 16 * (type == 10 ? 0 : flags));
-    if (type == 8 || type == 9)
-        m[1] = (uint8_t)draw(2);
-    if (type == 10) {
-        m[1] = (uint8_t)op;
-        if (op == 1)
-            m[2] = (uint8_t)(1 + draw(5));
-        if (op == 2) {
-            m[2] = (uint8_t)(draw(2) ? 1 : 2 * draw(8));
-            memset(m + 7, 0, 9);
-        }
-    }
-    return size;
-}
+static uint8_t containers[PROFILES][2][COUNT][CONTAINER];
 
 /* Fills a container by document 01's rules from granule 0 upwards, each granule left empty, with the rest of its group,
    with a chance of `rest` in 100, and messages over one granule taken with a chance of `longer` in 100. */
 static void fill(unsigned format, unsigned rest, unsigned longer, uint8_t *c) {
     uint8_t message[120] = {0};
     unsigned owed = 0, size = 0, starts = 0, miscs = 0, responses = 0, activation = 0, skip = 0;
-    memset(c, 0, BYTES);
+    memset(c, 0, CONTAINER);
     for (unsigned g = 0; g < GRANULES; g++) {
         unsigned width = granule_size(format, g);
         uint8_t *p = c + granule_start(g);
@@ -112,7 +69,7 @@ static void fill(unsigned format, unsigned rest, unsigned longer, uint8_t *c) {
 static void make_containers(void) {
     for (unsigned f = 0; f < 2; f++)
         for (unsigned i = 0; i < COUNT; i++) {
-            memset(containers[0][f][i], 0, BYTES);
+            memset(containers[0][f][i], 0, CONTAINER);
             if (draw(3) > 0)
                 fill(f, 40, 30, containers[1][f][i]);
             fill(f, 0, 25, containers[2][f][i]);
@@ -133,67 +90,24 @@ static uint32_t compare(uint32_t format, const uint8_t *c, size_t len) {
     exit(1);
 }
 
-/* Empties granule g, or starts a message of one granule there. */
-static void replace(unsigned format, unsigned g, unsigned type, uint8_t *c) {
-    uint8_t message[120] = {0}, *bits = c + header_place(format, g / 8);
-    unsigned width = granule_size(format, g), bit = 1u << g % 8;
-    memset(c + granule_start(g), 0, width);
-    *bits = (uint8_t)(*bits & ~bit);
-    if (type == 0)
-        return;
-    unsigned size = make_message(type, draw(5), message);
-    memcpy(c + granule_start(g), message, size < width ? size : width);
-    *bits = (uint8_t)(*bits | bit);
-}
-
-/* Changes one byte, one header byte, one start or one granule. */
-static void damage(unsigned format, uint8_t *c) {
-    static const uint8_t types[5] = {0, 3, 4, 10, 10};
-    switch (draw(7)) {
-    case 0:
-        c[draw(BYTES)] = (uint8_t)draw(256);
-        break;
-    case 1:
-        c[draw(BYTES)] ^= (uint8_t)(1u << draw(8));
-        break;
-    case 2:
-        c[header_place(format, draw(10))] = (uint8_t)draw(256);
-        break;
-    case 3: {
-        unsigned g = draw(GRANULES);
-        c[header_place(format, g / 8)] ^= (uint8_t)(1u << g % 8);
-        break;
-    }
-    case 4:
-        c[granule_start(draw(GRANULES))] = (uint8_t)draw(16);
-        break;
-    case 5:
-        replace(format, draw(GRANULES), types[draw(5)], c);
-        break;
-    default:
-        c[granule_start(draw(GRANULES)) + 1 + draw(2)] = (uint8_t)draw(8);
-        break;
-    }
-}
-
 static void check_answers(void) {
     unsigned seen[32] = {0};
     for (unsigned p = 0; p < PROFILES; p++)
         for (unsigned f = 0; f < 2; f++)
             for (unsigned i = 0; i < COUNT; i++)
-                if (compare(f, containers[p][f][i], BYTES) != 0) {
+                if (compare(f, containers[p][f][i], CONTAINER) != 0) {
                     printf("container %u of profile %s, format %u is not valid\n", i, profile_name[p], f);
                     exit(1);
                 }
     for (unsigned k = 0; k < DAMAGED; k++) {
-        uint8_t c[BYTES + 4] = {0};
+        uint8_t c[CONTAINER + 4] = {0};
         unsigned f = draw(2), changes = 1 + draw(3);
-        size_t len = BYTES;
-        memcpy(c, containers[draw(PROFILES)][f][draw(COUNT)], BYTES);
+        size_t len = CONTAINER;
+        memcpy(c, containers[draw(PROFILES)][f][draw(COUNT)], CONTAINER);
         for (unsigned i = 0; i < changes; i++)
             damage(f, c);
         if (draw(500) == 0)
-            len = draw(BYTES + 4);
+            len = draw(CONTAINER + 4);
         seen[compare(draw(500) == 0 ? 2 + draw(9) : f, c, len) >> 16]++;
     }
     printf("agree on %u valid and %u damaged containers; causes met:", PROFILES * 2 * COUNT, DAMAGED);
@@ -217,7 +131,7 @@ static double time_turns(judging *judge, unsigned p, unsigned f) {
     double began = seconds();
     for (unsigned t = 0; t < TURNS; t++)
         for (unsigned i = 0; i < COUNT; i++)
-            sum += judge(f, containers[p][f][i], BYTES);
+            sum += judge(f, containers[p][f][i], CONTAINER);
     double took = seconds() - began;
     if (sum != 0) {
         printf("a valid container was refused\n");

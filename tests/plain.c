@@ -1,7 +1,8 @@
-/* The judging of one container from a fresh state, written from document 01 in plain C. */
-#include "plain.h"
+/* The judging of a container and the audit, written from document 01 in plain C. */
+#include <string.h>
 
-enum { GRANULES = 12, CONTAINER = 256 };
+#include "layout.h"
+#include "plain.h"
 
 struct marks {
     int populated, responses, misc, activation;
@@ -11,31 +12,8 @@ static uint32_t refuse(unsigned cause, unsigned place) {
     return cause * 65536u + place;
 }
 
-static size_t granule_start(unsigned g) {
-    return 64 * (g / 3) + 20 * (g % 3);
-}
-
-static size_t granule_size(uint32_t format, unsigned g) {
-    if (format == 1 && g == 5)
-        return 16;
-    if (format == 1 && g == 11)
-        return 10;
-    return 20;
-}
-
 static uint8_t header(uint32_t format, const uint8_t *c, unsigned i) {
-    static const uint8_t x[10] = {126, 127, 188, 189, 190, 191, 252, 253, 254, 255};
-    return format == 0 ? c[x[i]] : c[246 + i];
-}
-
-static size_t message_size(unsigned type, unsigned op) {
-    static const uint8_t types[10] = {0, 20, 40, 10, 20, 20, 80, 100, 100, 120};
-    static const uint8_t ops[5] = {10, 10, 16, 10, 20};
-    if (type < 10)
-        return types[type];
-    if (type == 10 && op < 5)
-        return ops[op];
-    return 0;
+    return c[header_place(format, i)];
 }
 
 static int all_zero(const uint8_t *p, size_t n) {
@@ -123,11 +101,23 @@ static uint32_t groups(const struct marks *m) {
     return 0;
 }
 
-uint32_t plain_judge(uint32_t format, const uint8_t *c, size_t len) {
+static int has_counts(uint32_t format, const uint8_t *c) {
+    return header(format, c, 3) || header(format, c, 4) || header(format, c, 5) || header(format, c, 6);
+}
+
+static unsigned start_bits(uint32_t format, const uint8_t *c) {
+    return header(format, c, 0) + 256u * header(format, c, 1);
+}
+
+/* The most bytes of a carried message that a container takes. */
+static size_t takes(uint32_t format) {
+    return format == 0 ? 240 : 200;
+}
+
+/* Judges a container by 1 and 3 to 20, `owed` being the bytes owed of a carried message; leaves those owed behind it. */
+static uint32_t judge(uint32_t format, const uint8_t *c, size_t len, size_t *owed) {
     struct marks marks[GRANULES] = {{0, 0, 0, 0}};
-    size_t owed = 0;
-    if (format > 1)
-        return refuse(19, 0);
+    size_t owed_before = *owed;
     if (len != CONTAINER)
         return refuse(1, 0);
     uint8_t p1 = header(format, c, 1), p2 = header(format, c, 2);
@@ -135,18 +125,286 @@ uint32_t plain_judge(uint32_t format, const uint8_t *c, size_t len) {
         return refuse(3, 0);
     if (!form_ok(p2))
         return refuse(4, 0);
-    unsigned starts = header(format, c, 0) + 256u * p1;
+    unsigned starts = start_bits(format, c);
     for (unsigned g = 0; g < GRANULES; g++) {
-        unsigned cause = granule(g, starts >> g & 1, c + granule_start(g), granule_size(format, g), &owed, &marks[g]);
+        unsigned cause = granule(g, starts >> g & 1, c + granule_start(g), granule_size(format, g), owed, &marks[g]);
         if (cause != 0)
             return refuse(cause, g);
     }
     uint32_t answer = groups(marks);
     if (answer != 0)
         return answer;
-    int counts = header(format, c, 3) || header(format, c, 4) || header(format, c, 5) || header(format, c, 6);
     for (unsigned g = 0; g < GRANULES; g++)
-        if (counts && marks[g].activation)
+        if (marks[g].activation && has_counts(format, c))
             return refuse(13, 0);
+    return owed_before > takes(format) ? refuse(20, 0) : 0;
+}
+
+uint32_t plain_judge(uint32_t format, const uint8_t *c, size_t len) {
+    size_t owed = 0;
+    return format > 1 ? refuse(19, 0) : judge(format, c, len, &owed);
+}
+
+/* Whether a receiver has pool p. */
+static int has_pool(const struct plain_receiver *r, unsigned p) {
+    if (p >= 1 && p <= 8)
+        return p <= r->planes;
+    if (p == 12)
+        return r->push;
+    if (p == 13)
+        return r->push && r->planes >= 2;
+    return 1;
+}
+
+unsigned plain_charges(const uint8_t *m, unsigned pools[2]) {
+    unsigned type = m[0] % 16, shared = m[0] / 16 % 2, plane = m[0] / 32;
+    switch (type) {
+    case 1: case 2:
+        pools[0] = shared ? 0 : 1 + plane;
+        return 1;
+    case 3: case 4:
+        pools[0] = 9;
+        return 1;
+    case 5:
+        pools[0] = 10;
+        return 1;
+    case 6: case 7:
+        pools[0] = shared ? 11 : 12;
+        return 1;
+    case 8: case 9:
+        pools[0] = shared ? 0 : 1 + plane;
+        pools[1] = m[1] % 2 ? 11 : 13;
+        return 2;
+    default:
+        return 0;
+    }
+}
+
+uint32_t plain_payable(const struct plain_receiver *r, const uint8_t *m) {
+    unsigned type = m[0] % 16, shared = m[0] / 16 % 2, plane = m[0] / 32;
+    int request = type == 1 || type == 2, data = type == 6 || type == 7, push = type == 8 || type == 9;
+    if ((request || push) && plane >= r->planes)
+        return refuse(14, 1 + plane);
+    if (data && !shared && !has_pool(r, 12))
+        return refuse(14, 12);
+    if (push && (!r->push || (m[1] % 2 == 0 && !has_pool(r, 13))))
+        return refuse(14, 13);
     return 0;
+}
+
+/* Counts what a message pays. */
+static void count_charges(const uint8_t *m, unsigned counts[POOLS]) {
+    unsigned pools[2], n = plain_charges(m, pools);
+    for (unsigned i = 0; i < n; i++)
+        counts[pools[i]]++;
+}
+
+/* Cause 14 of a grant form, by the receiver that it pays. */
+static uint32_t grantable(const struct plain_receiver *r, const uint8_t form[5]) {
+    unsigned shc = form[0] % 2, rp = form[0] / 2, dat = form[4];
+    if (shc)
+        return 0;
+    if (rp >= r->planes)
+        return refuse(14, 1 + rp);
+    if (dat != 0 && (!r->push || rp > 1))
+        return refuse(14, rp == 0 ? 12 : 13);
+    return 0;
+}
+
+/* Counts what a grant form gives. */
+static void count_grant(const uint8_t form[5], unsigned counts[POOLS]) {
+    unsigned shc = form[0] % 2, rp = form[0] / 2;
+    counts[shc ? 0 : 1 + rp] += form[1];
+    counts[9] += form[2];
+    counts[10] += form[3];
+    if (form[4] != 0)
+        counts[shc ? 11 : 12 + rp] += form[4];
+}
+
+/* Judges the messages that start by 14 and counts what they pay. */
+static uint32_t begin_messages(const struct plain_receiver *r, unsigned starts, const uint8_t *c, unsigned begun[POOLS]) {
+    for (unsigned g = 0; g < GRANULES; g++) {
+        const uint8_t *m = c + granule_start(g);
+        if (!(starts >> g & 1))
+            continue;
+        uint32_t answer = plain_payable(r, m);
+        if (answer != 0)
+            return answer;
+        count_charges(m, begun);
+    }
+    return 0;
+}
+
+/* Judges one grant form by 14 and counts what it gives. */
+static uint32_t give(const struct plain_receiver *r, const uint8_t form[5], unsigned granted[POOLS]) {
+    uint32_t answer = grantable(r, form);
+    if (answer == 0)
+        count_grant(form, granted);
+    return answer;
+}
+
+/* Judges the header's grant and then the CrdtGrants by 14 and counts what they give. */
+static uint32_t give_grants(const struct plain_receiver *r, uint32_t format, const uint8_t *c, unsigned granted[POOLS]) {
+    unsigned starts = start_bits(format, c);
+    uint8_t form[5];
+    for (unsigned i = 0; i < 5; i++)
+        form[i] = header(format, c, 2 + i);
+    uint32_t answer = give(r, form, granted);
+    for (unsigned g = 0; g < GRANULES && answer == 0; g++) {
+        const uint8_t *m = c + granule_start(g);
+        if ((starts >> g & 1) && m[0] % 16 == 10 && m[1] == 2)
+            answer = give(r, m + 2, granted);
+    }
+    return answer;
+}
+
+/* 15 by what begins in direction d, then 16 by what is granted to the other. */
+static uint32_t judge_pools(const struct plain_ledger *l, unsigned d, const unsigned begun[POOLS], const unsigned granted[POOLS]) {
+    unsigned other = 1 - d;
+    for (unsigned p = 0; p < POOLS; p++)
+        if (begun[p] > l->held[d][p])
+            return refuse(15, p);
+    for (unsigned p = 0; p < POOLS; p++)
+        if (l->held[other][p] + granted[p] + l->open[other][p] > l->receiver[other].capacity[p])
+            return refuse(16, p);
+    return 0;
+}
+
+/* The bytes owed of a carried message. */
+static size_t owed_of(const struct plain_carry *carry) {
+    return carry->len == 0 ? 0 : message_size(carry->bytes[0] % 16, carry->bytes[1]) - carry->len;
+}
+
+/* Takes the last longer message that starts in a container, of which bytes are owed behind it. */
+static void take_carry(uint32_t format, const uint8_t *c, struct plain_carry *carry) {
+    unsigned starts = start_bits(format, c), g = GRANULES - 1;
+    while (!(starts >> g & 1) || message_size(c[granule_start(g)] % 16, c[granule_start(g) + 1]) <= 20)
+        g--;
+    for (; g < GRANULES; g++)
+        if (granule_size(format, g) == 20) {
+            memcpy(carry->bytes + carry->len, c + granule_start(g), 20);
+            carry->len += 20;
+        }
+}
+
+/* Enters an accepted container of direction d: its credits, its open messages and its carry. */
+static void enter(struct plain_ledger *l, unsigned d, const uint8_t *c, size_t owed, const unsigned begun[POOLS],
+                  const unsigned granted[POOLS]) {
+    unsigned open[POOLS] = {0};
+    l->carry[d] = (struct plain_carry){0};
+    if (owed > 0) {
+        take_carry(l->format, c, &l->carry[d]);
+        count_charges(l->carry[d].bytes, open);
+    }
+    for (unsigned p = 0; p < POOLS; p++) {
+        l->held[d][p] -= begun[p];
+        l->held[1 - d][p] += granted[p];
+        l->open[d][p] = open[p];
+    }
+}
+
+/* The answer as cause and place. */
+static unsigned tell(uint32_t answer, uint64_t *place) {
+    *place = answer % 65536;
+    return answer / 65536;
+}
+
+unsigned plain_step(struct plain_ledger *l, unsigned d, const uint8_t *c, size_t len, uint64_t *place) {
+    unsigned begun[POOLS] = {0}, granted[POOLS] = {0};
+    size_t owed = owed_of(&l->carry[d]);
+    uint32_t answer = judge(l->format, c, len, &owed);
+    if (answer == 0)
+        answer = begin_messages(&l->receiver[d], start_bits(l->format, c), c, begun);
+    if (answer == 0)
+        answer = give_grants(&l->receiver[1 - d], l->format, c, granted);
+    if (answer == 0)
+        answer = judge_pools(l, d, begun, granted);
+    if (answer == 0)
+        enter(l, d, c, owed, begun, granted);
+    return tell(answer, place);
+}
+
+static int receiver_valid(const struct plain_receiver *r) {
+    if (r->planes < 1 || r->planes > 8)
+        return 0;
+    for (unsigned p = 0; p < POOLS; p++)
+        if (r->capacity[p] > 1023 || (r->capacity[p] > 0 && !has_pool(r, p)))
+            return 0;
+    return 1;
+}
+
+/* Whether a carry is empty, or the first 20k bytes of a well-headed longer message, with zeros behind. */
+static int carry_valid(const struct plain_carry *carry) {
+    unsigned type = carry->bytes[0] % 16, op = carry->bytes[1];
+    if (carry->len > CARRY || !all_zero(carry->bytes + carry->len, CARRY - carry->len))
+        return 0;
+    if (carry->len == 0)
+        return 1;
+    return carry->len % 20 == 0 && carry->len < message_size(type, op) && head_ok(type, op, carry->bytes);
+}
+
+/* Whether the open messages of direction d follow from its carry, and held plus open is at most capacity. */
+static int pools_valid(const struct plain_ledger *l, unsigned d) {
+    unsigned open[POOLS] = {0};
+    if (l->carry[d].len > 0)
+        count_charges(l->carry[d].bytes, open);
+    for (unsigned p = 0; p < POOLS; p++)
+        if (l->open[d][p] != open[p] || (uint64_t)l->held[d][p] + open[p] > l->receiver[d].capacity[p])
+            return 0;
+    return 1;
+}
+
+static int direction_valid(const struct plain_ledger *l, unsigned d) {
+    if (!receiver_valid(&l->receiver[d]) || !carry_valid(&l->carry[d]))
+        return 0;
+    if (l->carry[d].len > 0 && plain_payable(&l->receiver[d], l->carry[d].bytes) != 0)
+        return 0;
+    return pools_valid(l, d);
+}
+
+int plain_valid(const struct plain_ledger *l) {
+    return l->format < 2 && direction_valid(l, 0) && direction_valid(l, 1);
+}
+
+unsigned plain_audit(struct plain_ledger *l, unsigned d, const uint8_t *c, size_t len, uint64_t *place) {
+    if (d > 1 || !plain_valid(l))
+        return tell(refuse(19, 0), place);
+    return plain_step(l, d, c, len, place);
+}
+
+struct plain_ledger plain_ledger_open(const uint32_t numbers[NUMBERS]) {
+    struct plain_ledger l = {0};
+    l.format = numbers[0];
+    for (unsigned d = 0; d < 2; d++) {
+        const uint32_t *n = numbers + 1 + 16 * d;
+        l.receiver[d].planes = n[0];
+        l.receiver[d].push = n[1] != 0;
+        memcpy(l.receiver[d].capacity, n + 2, sizeof l.receiver[d].capacity);
+    }
+    return l;
+}
+
+struct plain_run plain_run(const uint32_t numbers[NUMBERS], const uint8_t *entries, size_t len) {
+    struct plain_run run = {0, 0, 0, plain_ledger_open(numbers)};
+    if (len >= ENTRY && !plain_valid(&run.ledger)) {
+        run.cause = 19;
+        return run;
+    }
+    for (; run.cause == 0 && len >= ENTRY; entries += ENTRY, len -= ENTRY) {
+        if (entries[0] > 1)
+            run.cause = 19;
+        else
+            run.cause = plain_step(&run.ledger, entries[0], entries + 1, CONTAINER, &run.place);
+        run.count += run.cause == 0;
+    }
+    return run;
+}
+
+struct plain_run plain_run_each(const uint32_t numbers[NUMBERS], const uint8_t *entries, size_t len) {
+    struct plain_run run = {0, 0, 0, plain_ledger_open(numbers)};
+    for (; run.cause == 0 && len >= ENTRY; entries += ENTRY, len -= ENTRY) {
+        run.cause = plain_audit(&run.ledger, entries[0], entries + 1, CONTAINER, &run.place);
+        run.count += run.cause == 0;
+    }
+    return run;
 }

@@ -1,0 +1,275 @@
+/* Audits every log of a vector file and random traffic, and compares with the lines of the file and with plain C. */
+#include <stdio.h>
+#include <stdlib.h>
+#include <string.h>
+
+#include "audit.h"
+#include "layout.h"
+#include "plain.h"
+#include "traffic.h"
+
+enum { LINE = 65536, BYTES = 65536, MOST = 64, RUN = 24, JUDGED = 200000, CAUSES = 21 };
+
+/* What a run is made of: numbers, and entries one behind the other. */
+struct input {
+    uint32_t numbers[NUMBERS];
+    uint8_t entries[(MOST + 1) * ENTRY];
+    size_t len;
+};
+
+static unsigned differences;
+
+/* Prints a difference and counts it. */
+static void differ(const char *name, const char *what, uint64_t ours, uint64_t wanted) {
+    printf("%s: %s %llu, wanted %llu\n", name, what, (unsigned long long)ours, (unsigned long long)wanted);
+    differences++;
+}
+
+static void same(const char *name, const char *what, uint64_t ours, uint64_t wanted) {
+    if (ours != wanted)
+        differ(name, what, ours, wanted);
+}
+
+/* Compares cause, place and count of the library with the wanted ones. */
+static void compare_answer(const char *name, const struct input *in, unsigned cause, uint64_t place, size_t count) {
+    same(name, "cause", c2c_audit(in->numbers, NUMBERS, in->entries, in->len), cause);
+    same(name, "cause by a call each", c2c_audit_each(in->numbers, NUMBERS, in->entries, in->len), cause);
+    same(name, "place", c2c_audit_place(in->numbers, NUMBERS, in->entries, in->len), place);
+    same(name, "count", c2c_audit_count(in->numbers, NUMBERS, in->entries, in->len), count);
+}
+
+/* Compares the reports of all pools with a ledger of plain C. */
+static void compare_reports(const char *name, const struct input *in, const struct plain_ledger *l) {
+    for (unsigned d = 0; d < 2; d++)
+        for (unsigned p = 0; p < POOLS; p++) {
+            uint64_t report = c2c_audit_report(in->numbers, NUMBERS, in->entries, in->len, d, p);
+            same(name, "held", report >> 32, l->held[d][p]);
+            same(name, "open", report & 0xFFFFFFFFu, l->open[d][p]);
+        }
+}
+
+/* Compares the library with plain C, by one run and by a call each; answers plain C's run. */
+static struct plain_run compare_plain(const char *name, const struct input *in) {
+    struct plain_run run = plain_run(in->numbers, in->entries, in->len);
+    struct plain_run each = plain_run_each(in->numbers, in->entries, in->len);
+    same(name, "plain C's cause by a call each", each.cause, run.cause);
+    same(name, "plain C's place by a call each", each.place, run.place);
+    same(name, "plain C's count by a call each", each.count, run.count);
+    compare_answer(name, in, run.cause, run.place, run.count);
+    compare_reports(name, in, &run.ledger);
+    return run;
+}
+
+/* The bytes of a hex field, where (n) is n zero bytes and `-` is no byte. */
+static size_t decode(const char *text, uint8_t *out) {
+    size_t n = 0;
+    int used = 0;
+    for (; *text != '\0' && *text != '-'; text += used) {
+        unsigned value = 0, zeros = 0;
+        int run = sscanf(text, "(%u)%n", &zeros, &used) == 1;
+        if ((!run && sscanf(text, "%2x%n", &value, &used) != 1) || n + zeros + 1 > BYTES) {
+            fprintf(stderr, "bad hex field\n");
+            exit(2);
+        }
+        if (run)
+            memset(out + n, 0, zeros);
+        else
+            out[n] = (uint8_t)value;
+        n += run ? zeros : 1;
+    }
+    return n;
+}
+
+/* Reads a number in seven-bit groups; answers the bytes it takes, 0 if it is broken. */
+static size_t read_number(const uint8_t *bytes, size_t len, uint32_t *value) {
+    uint64_t sum = 0;
+    for (size_t i = 0; i < 5 && i < len; i++) {
+        sum += (uint64_t)(bytes[i] & 127) << 7 * i;
+        if (bytes[i] < 128) {
+            *value = (uint32_t)sum;
+            return sum > 0xFFFFFFFFu || (i > 0 && bytes[i] == 0) ? 0 : i + 1;
+        }
+    }
+    return 0;
+}
+
+/* Reads the configuration of a log; answers the bytes it takes, 0 if it is none that the audit could be handed. */
+static size_t read_numbers(const uint8_t *log, size_t len, uint32_t numbers[NUMBERS]) {
+    size_t at = 0;
+    for (unsigned i = 0; i < NUMBERS; i++) {
+        size_t used = read_number(log + at, len - at, &numbers[i]);
+        if (used == 0)
+            return 0;
+        at += used;
+    }
+    return numbers[2] > 1 || numbers[18] > 1 ? 0 : at;
+}
+
+/* Takes the whole entries of a log, up to the first that is cut or has a broken number. */
+static void read_entries(const uint8_t *log, size_t len, struct input *in) {
+    uint32_t number;
+    for (;;) {
+        size_t used = read_number(log, len, &number);
+        if (used == 0 || len - used < CONTAINER)
+            return;
+        if (in->len + ENTRY > sizeof in->entries) {
+            fprintf(stderr, "a log has over %d entries\n", MOST);
+            exit(2);
+        }
+        in->entries[in->len] = (uint8_t)(number % 2);
+        memcpy(in->entries + in->len + 1, log + used, CONTAINER);
+        in->len += ENTRY;
+        log += used + CONTAINER;
+        len -= used + CONTAINER;
+    }
+}
+
+/* Runs one log against its line; answers 0 if the audit cannot be handed it, which the line must say by 17 or 19. */
+static int run_log(const char *name, const char *line, const char *bytes) {
+    static uint8_t log[BYTES];
+    static struct input in;
+    unsigned count = 0, cause = 0;
+    unsigned long long place = 0;
+    size_t len = decode(bytes, log), used = read_numbers(log, len, in.numbers);
+    if (sscanf(line, "accepted %u", &count) != 1 && sscanf(line, "refused %u %u %llu", &count, &cause, &place) != 3) {
+        fprintf(stderr, "bad line of log %s\n", name);
+        exit(2);
+    }
+    in.len = 0;
+    if (used > 0)
+        read_entries(log + used, len - used, &in);
+    if (used == 0 || (cause == 19 && in.len == 0)) {
+        if (count != 0 || (cause != 17 && cause != 19))
+            differ(name, "a skipped log's cause", 0, cause);
+        return 0;
+    }
+    /* what the log alone refuses stands behind entries that are accepted */
+    if (cause == 17 || cause == 18)
+        cause = place = 0;
+    compare_answer(name, &in, cause, place, count);
+    struct plain_run run = compare_plain(name, &in);
+    same(name, "plain C's cause", run.cause, cause);
+    same(name, "plain C's place", run.place, place);
+    same(name, "plain C's count", run.count, count);
+    return 1;
+}
+
+/* Runs every log of a file; answers how many there are and counts the skipped ones. */
+static unsigned run_logs(const char *path, unsigned *skipped) {
+    static char text[LINE];
+    unsigned count = 0;
+    FILE *in = fopen(path, "r");
+    if (in == NULL) {
+        fprintf(stderr, "cannot read %s\n", path);
+        exit(2);
+    }
+    while (fgets(text, sizeof text, in) != NULL) {
+        text[strcspn(text, "\n")] = '\0';
+        char *name = strtok(text, "\t"), *line = strtok(NULL, "\t"), *bytes = strtok(NULL, "\t");
+        count++;
+        if (bytes == NULL) {
+            fprintf(stderr, "line %u lacks a field\n", count);
+            exit(2);
+        }
+        if (!run_log(name, line, bytes))
+            ++*skipped;
+    }
+    fclose(in);
+    return count;
+}
+
+/* Draws a format and receivers, with few or many credits, each with and without push and of 1, 2, 8 or any planes. */
+static void draw_numbers(uint32_t numbers[NUMBERS]) {
+    static const unsigned most[4] = {2, 6, 300, 1023};
+    numbers[0] = draw(2);
+    for (unsigned d = 0; d < 2; d++) {
+        uint32_t *n = numbers + 1 + 16 * d;
+        unsigned planes[4] = {1, 2, 8, 1 + draw(8)}, capacity = most[draw(4)], uneven = draw(2);
+        describe_receiver(planes[draw(4)], draw(4) > 0, capacity, n);
+        for (unsigned p = 0; p < POOLS && uneven; p++)
+            n[2 + p] = draw(n[2 + p] + 1);
+    }
+}
+
+/* Makes a run of entries that are accepted. */
+static void draw_entries(struct input *in) {
+    static const struct profile profiles[3] = {{20, 25, 30, 50}, {0, 5, 25, 90}, {0, 0, 60, 70}};
+    const struct profile *profile = &profiles[draw(3)];
+    struct traffic t;
+    traffic_open(&t, in->numbers);
+    in->len = 0;
+    for (unsigned i = 0; i < RUN; i++) {
+        uint8_t *entry = in->entries + in->len;
+        entry[0] = (uint8_t)draw(2);
+        traffic_next(&t, entry[0], profile, entry + 1);
+        in->len += ENTRY;
+    }
+}
+
+/* Changes one count of the header's grant by one. */
+static void nudge_count(uint32_t format, uint8_t *container) {
+    uint8_t *count = container + header_place(format, 3 + draw(4));
+    *count = (uint8_t)(draw(2) ? *count + 1 : *count - 1);
+}
+
+/* Damages an entry: its direction, a count, or other bytes of its container. */
+static void damage_entry(uint32_t format, uint8_t *entry) {
+    unsigned kind = draw(8);
+    if (kind == 0)
+        entry[0] = (uint8_t)(draw(8) ? entry[0] ^ 1u : draw(256));
+    else if (kind < 4)
+        nudge_count(format, entry + 1);
+    else
+        damage(format, entry + 1);
+}
+
+/* Damages one number of a configuration. */
+static void damage_numbers(uint32_t numbers[NUMBERS]) {
+    static const uint32_t values[6] = {0, 1, 2, 9, 1023, 1024};
+    numbers[draw(NUMBERS)] = draw(8) ? values[draw(6)] : 0xFFFFFFFFu - draw(3);
+}
+
+/* Makes a run of valid traffic and, three times out of four, damages some of it. */
+static void draw_run(struct input *in) {
+    draw_numbers(in->numbers);
+    draw_entries(in);
+    for (unsigned i = draw(4); i > 0; i--)
+        damage_entry(in->numbers[0], in->entries + ENTRY * draw(RUN));
+    if (draw(50) == 0)
+        damage_numbers(in->numbers);
+    if (draw(4) == 0) {
+        memset(in->entries + in->len, 0xEE, ENTRY);
+        in->len += draw(ENTRY);
+    }
+}
+
+/* Compares random runs until enough entries are judged; answers how many runs. */
+static unsigned run_random(void) {
+    static struct input in;
+    unsigned runs = 0, seen[CAUSES] = {0};
+    for (size_t judged = 0; judged < JUDGED; runs++) {
+        char name[32];
+        draw_run(&in);
+        snprintf(name, sizeof name, "random run %u", runs);
+        struct plain_run run = compare_plain(name, &in);
+        judged += run.count + (run.cause != 0);
+        seen[run.cause]++;
+    }
+    printf("audit: random runs by cause:");
+    for (unsigned i = 0; i < CAUSES; i++)
+        if (seen[i] > 0)
+            printf(" %u (%u)", i, seen[i]);
+    printf("\n");
+    return runs;
+}
+
+int main(int argc, char **argv) {
+    unsigned skipped = 0;
+    if (argc != 2) {
+        fprintf(stderr, "usage: audit LOGS\n");
+        return 2;
+    }
+    unsigned logs = run_logs(argv[1], &skipped), runs = run_random();
+    printf("audit: %u logs (%u skipped), %u random runs, %u differences\n", logs, skipped, runs, differences);
+    return logs > skipped && differences == 0 ? 0 : 1;
+}

@@ -1,0 +1,24 @@
+/* The audit of entries through the static library; 33 numbers and entries, each a direction and 256 bytes. */
+#ifndef AUDIT_H
+#define AUDIT_H
+
+#include <stddef.h>
+#include <stdint.h>
+
+/* 0, or the cause of the first refusal. */
+uint32_t c2c_audit(const uint32_t *numbers, size_t numbers_len, const uint8_t *entries, size_t entries_len);
+
+/* The same by one audit call an entry. */
+uint32_t c2c_audit_each(const uint32_t *numbers, size_t numbers_len, const uint8_t *entries, size_t entries_len);
+
+/* The place of the first refusal, 0 where there is none. */
+uint64_t c2c_audit_place(const uint32_t *numbers, size_t numbers_len, const uint8_t *entries, size_t entries_len);
+
+/* The entries accepted before the first refusal. */
+size_t c2c_audit_count(const uint32_t *numbers, size_t numbers_len, const uint8_t *entries, size_t entries_len);
+
+/* Credits held * 2^32 + messages open behind the entries accepted, of one direction and pool. */
+uint64_t c2c_audit_report(const uint32_t *numbers, size_t numbers_len, const uint8_t *entries, size_t entries_len,
+                          uint32_t direction, uint32_t pool);
+
+#endif
