@@ -1,14 +1,14 @@
 -- The pools of a receiver, case by case. Assumes nothing.
 use Prim.Native.Nat.{ℕ, zero, suc, _+_, _%_, _≤_, _<_}
 use mathlib.Core.Path.{_≡_, refl, sym, ap, _∙_}
-use mathlib.Core.Bool.{Bool, true, false, _&&_, _||_, or-false}
+use mathlib.Core.Bool.{Bool, true, false, _&&_, _||_, not, or-false}
 use mathlib.Core.List.{List, [], _∷_}
 use native.Mathlib.Omega.{arith}
 use lib.ListN.{getD}
 use lib.Dec.{eqb, ltb, leb}
 use borrow.Author.Tests.{lt-ltb, le-ltb, le-leb, lt-leb, eq-eqb, ne-eqb}
 use Rattle.lists.specs.Pick.{pick}
-use Rattle.lists.proofs.Tests.{and-false, or-true}
+use Rattle.lists.proofs.Tests.{and-left, and-right, and-false, or-true}
 use Rattle.cause.specs.Checks.{Check, check, firstFault}
 use Rattle.cause.specs.declared.Cause.{Cause}
 use Rattle.cause.specs.declared.Cause.the-variants.{MissingPool}
@@ -17,10 +17,10 @@ use Rattle.cause.specs.declared.Verdict.the-variants.{Sound, Faulty}
 use Rattle.cause.proofs.CheckLaws.{first-append}
 use Rattle.container.specs.declared.grant.Grant.{Grant}
 use Rattle.message.specs.Heads.{classOf}
-use Rattle.message.specs.Charges.{resPlane}
+use Rattle.message.specs.Charges.{resPlane, sharedCrdt}
 use Rattle.message.specs.declared.heads.Class.{Class}
 use Rattle.message.specs.declared.heads.Class.the-variants.{RequestData}
-use Rattle.ledger.specs.Pools.{hasPool, capacityOk, capacitiesOk, receiverOk, paymentChecks, grantChecks}
+use Rattle.ledger.specs.Pools.{paysReq, paysData, paysPush, hasPool, capacityOk, capacitiesOk, receiverOk, paymentChecks, grantChecks}
 use Rattle.ledger.specs.declared.receiver.Receiver.{Receiver}
 use Rattle.ledger.proofs.PoolLoops.{Tests}
 
@@ -101,3 +101,12 @@ module _ (r : Receiver) (n : Grant) (s : n .shc ≡ false) where
 
       pub grant-past : 2 ≤ n .rp → Faulty MissingPool 13 ≡ firstFault (grantChecks r n)
       grant-past l = no-pool (rw (le-ltb (n .rp) 2 l) (and-false (r .push))) 13 (rw (ne-eqb (n .rp) 0 (λ z. omega arith)))
+
+-- where every pool that a message may need exists, it passes 14
+pub every-pool : (r : Receiver) (t first second : ℕ) → (r .push && (leb 2 (r .planes) && ltb (resPlane first) (r .planes))) ≡ true → Sound ≡ firstFault (paymentChecks r t first second)
+every-pool r t first second e =
+    let p = and-left (r .push) (leb 2 (r .planes) && ltb (resPlane first) (r .planes)) e in
+    let q = and-right (r .push) (leb 2 (r .planes) && ltb (resPlane first) (r .planes)) e in
+    let a = and-left (leb 2 (r .planes)) (ltb (resPlane first) (r .planes)) q in
+    let b = and-right (leb 2 (r .planes)) (ltb (resPlane first) (r .planes)) q in
+    rw (p, a, b, or-true (sharedCrdt first), or-true (eqb (second % 2) 1), or-true (not (paysReq (classOf t))), or-true (not (paysData (classOf t))), or-true (not (paysPush (classOf t))))

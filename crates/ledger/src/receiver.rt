@@ -3,7 +3,7 @@ ghost use mathlib.Core.Path.{_≡_};
 ghost use mathlib.Core.Bool.{_&&_, _||_};
 ghost use Prim.Native.Nat.{_+_, _%_, _<_};
 ghost use mathlib.Core.List.{[], _∷_};
-ghost use lib.Dec.{eqb, ltb};
+ghost use lib.Dec.{eqb, ltb, leb};
 ghost use Rattle.cause.specs.Checks.{firstFault, check};
 ghost use Rattle.cause.specs.declared.Cause.the-variants.{MissingPool};
 ghost use Rattle.message.specs.Charges.{resPlane, sharedCrdt};
@@ -115,8 +115,20 @@ impl Receiver {
         Verdict::Faulty(Cause::MissingPool, 13)
     }
 
-    // The pools of a message of this type, by its bytes 0 and 1: REQ before DAT.
-    pub fn judge_payment(self, kind: u8, first: u8, second: u8) -> Verdict
+    // Whether every pool that a message with this byte 0 may need exists.
+    fn has_every_pool(self, first: u8) -> bool
+        ensures { λ r. ⌜ r ≡ (self .push && (leb 2 (self .planes) && ltb (resPlane first) (self .planes))) ⌝ }
+    {
+        if self.push {
+            if 2 <= self.planes {
+                return ((first / 32) as u32) < self.planes;
+            }
+        }
+        false
+    }
+
+    // The pools of a message by the class of its type: REQ before DAT.
+    fn judge_class(self, kind: u8, first: u8, second: u8) -> Verdict
         ensures { λ r. ⌜ r ≡ firstFault (paymentChecks self kind first second) ⌝ }
     {
         let class = classify_message(kind);
@@ -135,6 +147,16 @@ impl Receiver {
             }
             Class::Misc => Verdict::Sound,
         }
+    }
+
+    // The pools of a message of this type, by its bytes 0 and 1: REQ before DAT.
+    pub fn judge_payment(self, kind: u8, first: u8, second: u8) -> Verdict
+        ensures { λ r. ⌜ r ≡ firstFault (paymentChecks self kind first second) ⌝ }
+    {
+        if self.has_every_pool(first) {
+            return Verdict::Sound;
+        }
+        self.judge_class(kind, first, second)
     }
 
     // The pools of a grant: the plane before DAT.

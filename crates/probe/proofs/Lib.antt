@@ -1,3 +1,2 @@
 pub mod JudgeLaws
 pub mod FillLaws
-pub mod AuditLaws

@@ -1,6 +1,4 @@
-// The judging, the filling and the audit of containers, for tests and benchmarks written in C.
-mod audit;
-
+// The judging and the filling of containers, for tests and benchmarks written in C.
 ghost use mathlib.Core.Path.{_≡_};
 ghost use lib.ListN.{length};
 ghost use Rattle.probe.specs.Judge.{judgeCode};

@@ -1,9 +1,9 @@
-// The audit of entries from a fresh ledger.
+// The audit of entries from a fresh ledger, for tests and benchmarks written in C.
 ghost use mathlib.Core.Path.{_≡_};
 ghost use Prim.Native.Nat.{_≤_};
 ghost use lib.ListN.{getD};
 ghost use Rattle.ledger.specs.Audit.{auditing};
-ghost use Rattle.probe.specs.Audit.{receiverFrom, ledgerFrom, causeOf, placeOf, reportNumber, runFrom};
+ghost use Rattle.audit_probe.specs.Audit.{receiverFrom, ledgerFrom, causeOf, placeOf, reportNumber, runFrom};
 use cause::number_cause;
 use ledger::Answer;
 use ledger::Ledger;

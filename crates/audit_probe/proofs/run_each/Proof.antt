@@ -1,13 +1,13 @@
--- `probe::audit::run_each` meets its contract.
+-- `audit_probe::run_each` meets its contract.
 use Prim.Native.Nat.{_+_, _-_, _≤_}
 use mathlib.Core.Path.{_≡_, _∙_}
 use native.Mathlib.Omega.{arith}
 use lib.ListN.{length}
 use borrow.Author.Needs.{needs}
 use Rattle.ledger.proofs.RunLaws.{Running, running-none, running-ends, running-refused, running-more, entry-at}
-use Rattle.probe.proofs.AuditLaws.{run-from}
-use Rattle.probe.proofs.audit.run_each.Statement.{statement}
-use Rattle.probe.proofs.audit.run_each.Tie as tie
+use Rattle.audit_probe.proofs.AuditLaws.{run-from}
+use Rattle.audit_probe.proofs.run_each.Statement.{statement}
+use Rattle.audit_probe.proofs.run_each.Tie as tie
 
 abbrev Inv-loop : tie.InvT-loop
 Inv-loop numbers entries ledger₀ count₀ at₀ ledger count at = Running ledger₀ entries ledger count at

@@ -1,8 +1,8 @@
--- `probe::audit::load_ledger` meets its contract.
-use Rattle.probe.proofs.AuditLaws.{loaded}
+-- `audit_probe::load_ledger` meets its contract.
+use Rattle.audit_probe.proofs.AuditLaws.{loaded}
 use borrow.Author.Needs.{needs}
-use Rattle.probe.proofs.audit.load_ledger.Statement.{statement}
-use Rattle.probe.proofs.audit.load_ledger.Tie as tie
+use Rattle.audit_probe.proofs.load_ledger.Statement.{statement}
+use Rattle.audit_probe.proofs.load_ledger.Tie as tie
 
 number-at-requires : tie.Need-number-at-requires
 number-at-requires c κs = search needs

@@ -1,9 +1,9 @@
--- `probe::audit::number_at` meets its contract.
+-- `audit_probe::number_at` meets its contract.
 use mathlib.Core.Path.{sym}
 use lib.ListN.{List·getD-eq-default}
 use borrow.Author.Needs.{needs}
-use Rattle.probe.proofs.audit.number_at.Statement.{statement}
-use Rattle.probe.proofs.audit.number_at.Tie as tie
+use Rattle.audit_probe.proofs.number_at.Statement.{statement}
+use Rattle.audit_probe.proofs.number_at.Tie as tie
 
 mul-result : tie.Need-mul-result
 mul-result c = search needs

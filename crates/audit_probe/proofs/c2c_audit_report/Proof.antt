@@ -1,11 +1,11 @@
--- `probe::audit::c2c_audit_report` meets its contract.
+-- `audit_probe::c2c_audit_report` meets its contract.
 use mathlib.Core.Path.{ap}
 use Rattle.ledger.specs.declared.entries.Run.{Run}
-use Rattle.probe.specs.Audit.{runFrom}
-use Rattle.probe.proofs.AuditLaws.{report-number}
+use Rattle.audit_probe.specs.Audit.{runFrom}
+use Rattle.audit_probe.proofs.AuditLaws.{report-number}
 use borrow.Author.Needs.{needs}
-use Rattle.probe.proofs.audit.c2c_audit_report.Statement.{statement}
-use Rattle.probe.proofs.audit.c2c_audit_report.Tie as tie
+use Rattle.audit_probe.proofs.c2c_audit_report.Statement.{statement}
+use Rattle.audit_probe.proofs.c2c_audit_report.Tie as tie
 
 run-entries-requires : tie.Need-run-entries-requires
 run-entries-requires c κs = search needs

@@ -1,10 +1,10 @@
--- `probe::audit::c2c_audit_each` meets its contract.
+-- `audit_probe::c2c_audit_each` meets its contract.
 use mathlib.Core.Path.{ap, _∙_}
 use Rattle.ledger.specs.declared.entries.Run.{Run}
-use Rattle.probe.specs.Audit.{causeOf}
+use Rattle.audit_probe.specs.Audit.{causeOf}
 use borrow.Author.Needs.{needs}
-use Rattle.probe.proofs.audit.c2c_audit_each.Statement.{statement}
-use Rattle.probe.proofs.audit.c2c_audit_each.Tie as tie
+use Rattle.audit_probe.proofs.c2c_audit_each.Statement.{statement}
+use Rattle.audit_probe.proofs.c2c_audit_each.Tie as tie
 
 run-each-requires : tie.Need-run-each-requires
 run-each-requires c κs = search needs

@@ -1,9 +1,9 @@
--- `probe::audit::run_entries` meets its contract.
+-- `audit_probe::run_entries` meets its contract.
 use mathlib.Core.Path.{_∙_}
-use Rattle.probe.proofs.AuditLaws.{run-from}
+use Rattle.audit_probe.proofs.AuditLaws.{run-from}
 use borrow.Author.Needs.{needs}
-use Rattle.probe.proofs.audit.run_entries.Statement.{statement}
-use Rattle.probe.proofs.audit.run_entries.Tie as tie
+use Rattle.audit_probe.proofs.run_entries.Statement.{statement}
+use Rattle.audit_probe.proofs.run_entries.Tie as tie
 
 load-ledger-requires : tie.Need-load-ledger-requires
 load-ledger-requires c κs = search needs

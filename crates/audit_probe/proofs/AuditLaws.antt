@@ -10,7 +10,7 @@ use Rattle.ledger.specs.declared.ledger.Ledger.{Ledger}
 use Rattle.ledger.specs.declared.ledger.Opened.{Opened}
 use Rattle.ledger.specs.declared.ledger.Report.{Report}
 use Rattle.ledger.specs.declared.entries.Run.{Run}
-use Rattle.probe.specs.Audit.{ledgerFrom, reportNumber, runFrom}
+use Rattle.audit_probe.specs.Audit.{ledgerFrom, reportNumber, runFrom}
 
 pub run-from : (l e : List ℕ) (s : Ledger) → s ≡ ledgerFrom l → runOver s e ≡ runFrom l e
 unfolding runFrom

@@ -1,4 +1,4 @@
--- `probe::audit::load_receiver` meets its contract.
+-- `audit_probe::load_receiver` meets its contract.
 use Prim.Native.Nat.{ℕ, _+_, _-_, _≤_}
 use mathlib.Core.Path.{_≡_, refl, sym, ap, _∙_}
 use mathlib.Core.List.{List}
@@ -8,8 +8,8 @@ use borrow.Author.Needs.{needs}
 use Rattle.lists.proofs.Fill.{grown, grown-more, grown-all}
 use Rattle.ledger.specs.Audit.{row}
 use Rattle.ledger.proofs.RowLaws.{row-at, length-row}
-use Rattle.probe.proofs.audit.load_receiver.Statement.{statement}
-use Rattle.probe.proofs.audit.load_receiver.Tie as tie
+use Rattle.audit_probe.proofs.load_receiver.Statement.{statement}
+use Rattle.audit_probe.proofs.load_receiver.Tie as tie
 
 abbrev Inv-loop : tie.InvT-loop
 Inv-loop numbers at capacities₀ p₀ capacities p = (p ≤ 14) × (capacities ≡ grown (row (λ q. getD numbers (at + 2 + q) 0) 14 0) (replicate 14 0) p)

@@ -1,10 +1,10 @@
--- `probe::audit::c2c_audit_place` meets its contract.
+-- `audit_probe::c2c_audit_place` meets its contract.
 use mathlib.Core.Path.{sym, ap, _∙_}
 use Rattle.ledger.specs.declared.entries.Run.{Run}
-use Rattle.probe.specs.Audit.{placeOf}
+use Rattle.audit_probe.specs.Audit.{placeOf}
 use borrow.Author.Needs.{needs}
-use Rattle.probe.proofs.audit.c2c_audit_place.Statement.{statement}
-use Rattle.probe.proofs.audit.c2c_audit_place.Tie as tie
+use Rattle.audit_probe.proofs.c2c_audit_place.Statement.{statement}
+use Rattle.audit_probe.proofs.c2c_audit_place.Tie as tie
 
 run-entries-requires : tie.Need-run-entries-requires
 run-entries-requires c κs = search needs

@@ -1,9 +1,9 @@
--- `probe::audit::c2c_audit_count` meets its contract.
+-- `audit_probe::c2c_audit_count` meets its contract.
 use mathlib.Core.Path.{ap}
 use Rattle.ledger.specs.declared.entries.Run.{Run}
 use borrow.Author.Needs.{needs}
-use Rattle.probe.proofs.audit.c2c_audit_count.Statement.{statement}
-use Rattle.probe.proofs.audit.c2c_audit_count.Tie as tie
+use Rattle.audit_probe.proofs.c2c_audit_count.Statement.{statement}
+use Rattle.audit_probe.proofs.c2c_audit_count.Tie as tie
 
 run-entries-requires : tie.Need-run-entries-requires
 run-entries-requires c κs = search needs

@@ -1,7 +1,7 @@
--- `probe::audit::tell_cause` meets its contract.
+-- `audit_probe::tell_cause` meets its contract.
 use borrow.Author.Needs.{needs}
-use Rattle.probe.proofs.audit.tell_cause.Statement.{statement}
-use Rattle.probe.proofs.audit.tell_cause.Tie as tie
+use Rattle.audit_probe.proofs.tell_cause.Statement.{statement}
+use Rattle.audit_probe.proofs.tell_cause.Tie as tie
 
 enum-told : tie.Need-enum-told
 enum-told c = search needs
