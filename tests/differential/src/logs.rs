@@ -1,0 +1,228 @@
+//! Random logs: two ends that keep the rules for pools, most of the time.
+
+use model::layout::{Format, Grant, CONTAINER};
+use model::ledger::{
+    payments, Ledger, Receiver, DEDICATED_0, FIRST_PLANE, NUMBERS, POOLS, RSP, SHARED_DAT, SHARED_REQ, SNP,
+};
+use model::list::write_number;
+use model::message::Kind;
+
+use crate::make;
+use crate::random::Random;
+
+/// One container of one direction, at some time.
+pub struct Entry {
+    pub direction: u8,
+    pub ticks: u32,
+    pub container: [u8; CONTAINER],
+}
+
+/// A configuration of 33 numbers and entries.
+pub struct Log {
+    pub numbers: Vec<u32>,
+    pub entries: Vec<Entry>,
+}
+
+impl Log {
+    /// The log as the audit program reads it.
+    pub fn bytes(&self) -> Vec<u8> {
+        let mut out = Vec::new();
+        for &number in &self.numbers {
+            write_number(number, &mut out);
+        }
+        for entry in &self.entries {
+            write_number(2 * entry.ticks + u32::from(entry.direction % 2), &mut out);
+            out.extend_from_slice(&entry.container);
+        }
+        out
+    }
+
+    /// The entries as the probe reads them: a direction byte and the container each.
+    pub fn entry_bytes(&self) -> Vec<u8> {
+        let mut out = Vec::new();
+        for entry in &self.entries {
+            out.push(entry.direction);
+            out.extend_from_slice(&entry.container);
+        }
+        out
+    }
+
+    /// Whether the configuration and every direction are valid.
+    pub fn is_valid(&self) -> bool {
+        Ledger::from_numbers(&self.numbers).is_ok() && self.entries.iter().all(|entry| entry.direction <= 1)
+    }
+}
+
+/// A random log.
+pub fn log(random: &mut Random) -> Log {
+    let mut log = Log { numbers: configuration(random), entries: Vec::new() };
+    let count = if random.once_in(20) { random.below(200) } else { random.below(40) };
+    let sloppy = random.pick(&[30, 300, 3_000, 1_000_000]);
+    let damaged = random.pick(&[3, 20, 100, 1_000_000]);
+    let mut ledger = Ledger::from_numbers(&log.numbers).expect("the configuration is valid");
+    for _ in 0..count {
+        let mut direction = random.byte_below(2);
+        let mut container = entry(random, &ledger, usize::from(direction), sloppy);
+        if random.once_in(damaged) {
+            make::damage(random, ledger.format, &mut container);
+        }
+        if random.once_in(2_000) {
+            direction = random.pick(&[2, 3, 128, 255]);
+        }
+        let ticks = random.pick(&[0, 1, 63, 64, 8_191, 8_192, 2_147_483_647]);
+        log.entries.push(Entry { direction, ticks, container });
+        match ledger.audit(u32::from(direction), &container) {
+            Ok(next) => ledger = next,
+            Err(_) if random.once_in(2) => break,
+            Err(_) => {}
+        }
+    }
+    if random.once_in(25) {
+        damage_configuration(random, &mut log.numbers);
+    }
+    log
+}
+
+/// Damages a log's bytes in one random way.
+pub fn damage_bytes(random: &mut Random, bytes: &mut Vec<u8>) {
+    let front = random.below(bytes.len().min(60));
+    match random.below(5) {
+        0 => bytes.truncate(front),
+        1 => bytes.truncate(random.below(bytes.len())),
+        2 => bytes[front] = random.byte(),
+        3 => bytes
+            .splice(front..front, random.pick(&[&[0x80, 0][..], &[255; 6], &[0x81, 0x80, 0], &[9]]).iter().copied())
+            .for_each(drop),
+        _ => {
+            let at = random.below(bytes.len());
+            bytes[at] = random.byte();
+        }
+    }
+}
+
+/// A valid configuration.
+fn configuration(random: &mut Random) -> Vec<u32> {
+    let mut numbers = vec![random.below(2) as u32];
+    for _ in 0..2 {
+        let most = random.pick(&[2, 8, 60, 1_024, 1_024]);
+        let mut receiver = Receiver {
+            planes: 1 + random.below(8) as u32,
+            push: u32::from(!random.once_in(4)),
+            capacities: [0; POOLS],
+        };
+        for pool in 0..POOLS {
+            let capacity = if random.once_in(9) { 0 } else { random.below(most) as u32 };
+            receiver.capacities[pool] = if receiver.has_pool(pool) { capacity } else { 0 };
+        }
+        numbers.extend([receiver.planes, receiver.push]);
+        numbers.extend(receiver.capacities);
+    }
+    numbers
+}
+
+/// Changes one number, often to one that is not valid.
+fn damage_configuration(random: &mut Random, numbers: &mut [u32]) {
+    numbers[random.below(NUMBERS)] = random.pick(&[0, 1, 2, 8, 9, 1_023, 1_024, u32::MAX]);
+}
+
+/// What an entry's sender and receiver may still do.
+struct Books {
+    receiver: Receiver,
+    other: Receiver,
+    held: [u64; POOLS],
+    room: [u64; POOLS],
+    sloppy: usize,
+}
+
+/// A container that keeps the rules, with messages that have credits and grants that have slots, most of the time.
+fn entry(random: &mut Random, ledger: &Ledger, own: usize, sloppy: usize) -> [u8; CONTAINER] {
+    let opposite = 1 - own;
+    let mut books = Books {
+        receiver: ledger.receivers[own],
+        other: ledger.receivers[opposite],
+        held: [0; POOLS],
+        room: [0; POOLS],
+        sloppy,
+    };
+    for pool in 0..POOLS {
+        books.held[pool] = ledger.held(own, pool);
+        let taken = ledger.held(opposite, pool) + ledger.open(opposite, pool);
+        books.room[pool] = u64::from(books.other.capacities[pool]) - taken;
+    }
+    let format: Format = ledger.format;
+    let grant = if random.once_in(4) { Grant::default() } else { books.grant(random) };
+    let kinds = make::palette(random);
+    let carry = ledger.carries[own];
+    make::container(random, format, &carry, grant, |random, legal| {
+        let may = |kind: &Kind| kinds.contains(kind) && (*kind != Kind::Activation || grant.is_empty());
+        let legal: Vec<Kind> = legal.iter().copied().filter(may).collect();
+        books.message(random, &legal)
+    })
+}
+
+impl Books {
+    /// A grant that has slots, most of the time.
+    fn grant(&mut self, random: &mut Random) -> Grant {
+        if random.once_in(self.sloppy) {
+            return make::grant(random);
+        }
+        let shared = random.once_in(2);
+        let plane = if shared { 0 } else { random.below(self.other.planes as usize) };
+        let req = if shared { SHARED_REQ } else { FIRST_PLANE + plane };
+        let dat = if shared { SHARED_DAT } else { DEDICATED_0 + plane };
+        let pays_data = shared || self.other.push == 1 && plane <= 1;
+        Grant {
+            shared,
+            plane: plane as u8,
+            req: self.amount(random, req),
+            rsp: self.amount(random, RSP),
+            snp: self.amount(random, SNP),
+            dat: if pays_data { self.amount(random, dat) } else { 0 },
+        }
+    }
+
+    /// A number of credits of a pool, sometimes all and, sloppily, one too many.
+    fn amount(&mut self, random: &mut Random, pool: usize) -> u8 {
+        let most = self.room[pool].min(255);
+        let mut amount = match random.below(3) {
+            0 => 0,
+            1 => most,
+            _ => random.below(most as usize + 1) as u64,
+        };
+        if random.once_in(2 * self.sloppy) && most < 255 {
+            amount = most + 1;
+        }
+        self.room[pool] = self.room[pool].saturating_sub(amount);
+        amount as u8
+    }
+
+    /// A message of a legal kind that has credits, most of the time; none if none is found.
+    fn message(&mut self, random: &mut Random, legal: &[Kind]) -> Option<Vec<u8>> {
+        if legal.is_empty() {
+            return None;
+        }
+        for _ in 0..4 {
+            let kind = random.pick(legal);
+            let mut message = make::message(random, kind);
+            if kind == Kind::CrdtGrant {
+                make::set_grant(&mut message, self.grant(random));
+            }
+            if random.once_in(3 * self.sloppy) {
+                return Some(message);
+            }
+            if matches!(kind, Kind::ReqS | Kind::ReqL) || kind.is_push() {
+                let plane = random.byte_below(self.receiver.planes as u8);
+                message[0] = message[0] & 31 | plane << 5;
+            }
+            let pools = payments(&message);
+            let pays = pools.iter().all(|&pool| self.held[pool] > 0) && (!kind.is_push() || self.receiver.push == 1);
+            if pays || random.once_in(4 * self.sloppy) {
+                for pool in pools {
+                    self.held[pool] = self.held[pool].saturating_sub(1);
+                }
+                return Some(message);
+            }
+        }
+        None
+    }
+}

@@ -1,0 +1,344 @@
+//! Compares the proved code with the model on random inputs. Usage:
+//! differential [--seed N] [--long] [--data DIR] [--programs DIR] [--audit PATH]
+
+mod logs;
+mod make;
+mod programs;
+mod proved;
+mod random;
+mod tally;
+mod vectors;
+
+use std::path::Path;
+use std::process::ExitCode;
+use std::time::Instant;
+
+use model::cause::Refusal;
+use model::layout::{Format, Grant, CONTAINER};
+use model::ledger::{Ledger, DIRECTIONS, POOLS};
+use model::log::verdict;
+use model::{reader, writer};
+
+use crate::random::Random;
+use crate::tally::{hex, In, Tally};
+use crate::vectors::Outcome;
+
+const CONTAINERS: usize = 400_000;
+const LISTS: usize = 50_000;
+const LOGS: usize = 15_000;
+const RUNS: usize = 500;
+const AUDITED: usize = 5;
+const LONGER: usize = 10;
+const CAUSES: [u32; 17] = [1, 2, 3, 4, 5, 6, 7, 8, 9, 10, 11, 12, 13, 14, 15, 16, 19];
+
+/// What the run was asked for.
+struct Options {
+    seed: u64,
+    times: usize,
+    data: String,
+    programs: Option<String>,
+    audit: Option<String>,
+}
+
+/// The options of the command line.
+fn options() -> Options {
+    let mut options = Options { seed: 1, times: 1, data: "tests/data".into(), programs: None, audit: None };
+    let mut words = std::env::args().skip(1);
+    while let Some(word) = words.next() {
+        let mut value = || words.next().unwrap_or_else(|| panic!("{word} needs a value"));
+        match word.as_str() {
+            "--seed" => options.seed = value().parse().expect("a seed is a number"),
+            "--long" => options.times = LONGER,
+            "--data" => options.data = value(),
+            "--programs" => options.programs = Some(value()),
+            "--audit" => options.audit = Some(value()),
+            _ => panic!("unknown option {word}"),
+        }
+    }
+    options
+}
+
+fn main() -> ExitCode {
+    let options = options();
+    let started = Instant::now();
+    let mut random = Random::new(options.seed);
+    let mut tally = Tally::default();
+    let vectors = run_vectors(&options.data);
+    for _ in 0..CONTAINERS * options.times {
+        compare_container(&mut random, &mut tally);
+    }
+    for _ in 0..LISTS * options.times {
+        compare_fill(&mut random, &mut tally);
+    }
+    for n in 0..LOGS * options.times {
+        compare_log(&mut random, &mut tally, n, options.audit.as_deref());
+    }
+    if let Some(programs) = &options.programs {
+        for _ in 0..RUNS * options.times {
+            compare_programs(&mut random, &mut tally, programs);
+        }
+    }
+    report(&tally, options.seed, started);
+    let missed: Vec<u32> = CAUSES.into_iter().filter(|&cause| !tally.has_met(cause)).collect();
+    if !missed.is_empty() {
+        println!("causes not met: {missed:?}");
+    }
+    ExitCode::from(u8::from(!missed.is_empty() || tally.differences + vectors.differences > 0))
+}
+
+/// Runs the vector files against the model.
+fn run_vectors(data: &str) -> Outcome {
+    let mut outcomes = vec![
+        ("check", vectors::check_lines(&format!("{data}/check.tsv"))),
+        ("write", vectors::write_lines(&format!("{data}/write.tsv"))),
+    ];
+    let logs = format!("{data}/logs.tsv");
+    if Path::new(&logs).exists() {
+        outcomes.push(("logs", vectors::log_lines(&logs)));
+    }
+    let mut sum = Outcome::default();
+    for (name, outcome) in outcomes {
+        println!(
+            "model, {name}: {} vectors, {} too large, {} differences",
+            outcome.run, outcome.left, outcome.differences
+        );
+        sum.run += outcome.run;
+        sum.left += outcome.left;
+        sum.differences += outcome.differences;
+    }
+    sum
+}
+
+/// Prints the counts of the run.
+fn report(tally: &Tally, seed: u64, started: Instant) {
+    tally.print_table();
+    let [containers, lists, logs] = tally.compared;
+    println!(
+        "differential: seed {seed}, {containers} containers, {lists} lists, {logs} logs of {} entries, {} program runs, {} differences, {} s",
+        tally.entries,
+        tally.runs,
+        tally.differences,
+        started.elapsed().as_secs()
+    );
+}
+
+/// A random format, sometimes not valid.
+fn format_number(random: &mut Random) -> u32 {
+    if random.once_in(200) {
+        random.pick(&[2, 3, 255, 256, u32::MAX])
+    } else {
+        random.below(2) as u32
+    }
+}
+
+/// A random container of a format: one that keeps the rules, one that is damaged, or rubbish.
+fn random_container(random: &mut Random, format: Format) -> Vec<u8> {
+    let mut bytes = make::fresh_container(random, format).to_vec();
+    match random.below(20) {
+        0 => bytes = make::body(random, CONTAINER),
+        1..=6 => {}
+        _ => {
+            for _ in 0..1 + random.below(3) {
+                make::damage(random, format, &mut bytes);
+            }
+        }
+    }
+    if random.once_in(200) {
+        bytes.resize(random.pick(&[0, 1, 255, 257, 512]), 0);
+    }
+    bytes
+}
+
+/// Compares the judging and the check of one container.
+fn compare_container(random: &mut Random, tally: &mut Tally) {
+    let number = format_number(random);
+    let format = Format::from_number(number).unwrap_or(Format::X);
+    let container = random_container(random, format);
+    let expected = reader::judge_fresh(number, &container);
+    let judged = proved::judge(number, &container);
+    if judged != expected {
+        tally.differ(&format!("c2c_judge, format {number}"), &container, &show(expected), &show(judged));
+    }
+    let room_len = if random.once_in(100) { random.pick(&[0, 1, 100, 351]) } else { random.pick(&[352, 353, 400]) };
+    let filler = random.byte();
+    let mut room = vec![filler; room_len];
+    let mut room_proved = room.clone();
+    let expected = reader::check(number, &container, &mut room);
+    let checked = proved::check(number, &container, &mut room_proved);
+    if checked != expected || room != room_proved {
+        let model = format!("{} {}", show(expected), hex(&room));
+        let proved = format!("{} {}", show(checked), hex(&room_proved));
+        tally.differ(&format!("c2c_check, format {number}, room {room_len}"), &container, &model, &proved);
+    }
+    let refused = (expected != 0).then(|| Refusal { cause: expected / 65_536, place: u64::from(expected % 65_536) });
+    tally.count(In::Container, refused);
+}
+
+/// An answer of the host's check in words.
+fn show(answer: u32) -> String {
+    match answer {
+        0 => "accepted".into(),
+        _ => format!("cause {} place {}", answer / 65_536, answer % 65_536),
+    }
+}
+
+/// Compares the fill of one container.
+fn compare_fill(random: &mut Random, tally: &mut Tally) {
+    let number = format_number(random);
+    let tail = make::tail(random);
+    let grant = writer_grant(random);
+    let bound = make::list_bound(random);
+    let mut list = make::list(random, bound);
+    if random.once_in(4) {
+        make::damage_list(random, &mut list);
+    }
+    if random.once_in(100) {
+        list.resize(random.pick(&[4_096, 4_097, 5_000]), 0);
+    }
+    let len = if random.once_in(100) { random.pick(&[0, 255, 257]) } else { CONTAINER };
+    let filler = random.byte();
+    let mut container = vec![filler; len];
+    let mut next = tail;
+    let answer = proved::fill(number, &mut next, grant, &list, &mut container);
+    let expected = writer::fill(number, &tail, grant, &list, len);
+    let same = match &expected {
+        Err(r) => {
+            let untouched = next.bytes == tail.bytes && container == vec![filler; len];
+            answer == (u64::from(r.cause) << 32) + r.place && untouched
+        }
+        Ok(filled) => {
+            let wanted = (filled.used * 256 + filled.tail.len) as u64;
+            answer == wanted && next.bytes == filled.tail.bytes && container == filled.container
+        }
+    };
+    if !same {
+        let what = format!("c2c_fill, format {number}, tail {} of {}, {grant:?}", tail.len, hex(&tail.bytes));
+        let proved = format!("{answer} tail {} container {}", hex(&next.bytes), hex(&container));
+        tally.differ(&what, &list, &format!("{expected:?}"), &proved);
+    }
+    tally.count(In::List, expected.err());
+}
+
+/// A grant for the writer: often none, sometimes wrong.
+fn writer_grant(random: &mut Random) -> Grant {
+    if random.once_in(2) {
+        return Grant::default();
+    }
+    let mut grant = make::grant(random);
+    if random.once_in(20) {
+        grant.shared = random.once_in(2);
+        grant.plane = random.byte();
+    }
+    grant
+}
+
+/// A configuration as the probe reads it: any push but 0 is yes.
+fn as_probe_reads(numbers: &[u32]) -> Vec<u32> {
+    let mut numbers = numbers.to_vec();
+    for direction in 0..DIRECTIONS {
+        let push = &mut numbers[2 + direction * (2 + POOLS)];
+        *push = (*push).min(1);
+    }
+    numbers
+}
+
+/// What the model's ledger says of a log's entries, up to the first refusal.
+fn run_model(log: &logs::Log) -> proved::Audit {
+    let mut audit = proved::Audit { cause: 0, place: 0, accepted: 0, reports: [[0; POOLS]; DIRECTIONS] };
+    let mut refused = None;
+    match Ledger::from_numbers(&as_probe_reads(&log.numbers)) {
+        Err(refusal) => refused = (!log.entries.is_empty()).then_some(refusal),
+        Ok(mut ledger) => {
+            for entry in &log.entries {
+                match ledger.audit(u32::from(entry.direction), &entry.container) {
+                    Ok(next) => ledger = next,
+                    Err(refusal) => {
+                        refused = Some(refusal);
+                        break;
+                    }
+                }
+                audit.accepted += 1;
+            }
+            for (direction, pools) in audit.reports.iter_mut().enumerate() {
+                for (pool, report) in pools.iter_mut().enumerate() {
+                    *report = (ledger.held(direction, pool) << 32) + ledger.open(direction, pool);
+                }
+            }
+        }
+    }
+    if let Some(refusal) = refused {
+        audit.cause = refusal.cause;
+        audit.place = refusal.place;
+    }
+    audit
+}
+
+/// Compares the audit of one log, as entries and, where a program is given, as bytes fed in parts.
+fn compare_log(random: &mut Random, tally: &mut Tally, n: usize, program: Option<&str>) {
+    let log = logs::log(random);
+    let expected = run_model(&log);
+    let audited = proved::audit(&log.numbers, &log.entry_bytes());
+    let mut bytes = log.bytes();
+    if audited != expected {
+        tally.differ("c2c_audit", &bytes, &format!("{expected:?}"), &format!("{audited:?}"));
+    }
+    tally.entries += expected.accepted;
+    let refused = (expected.cause != 0).then_some(Refusal { cause: expected.cause, place: expected.place });
+    tally.count(In::Log, refused);
+    if random.once_in(4) {
+        logs::damage_bytes(random, &mut bytes);
+    } else if log.is_valid() {
+        compare_verdict(tally, &bytes, &audited);
+    }
+    if let (Some(program), 0) = (program, n % AUDITED) {
+        let part = programs::PARTS[n / AUDITED % programs::PARTS.len()];
+        compare_audit(tally, program, &bytes, part);
+    }
+}
+
+/// Compares the model's verdict on a log's bytes with the audit of its entries.
+fn compare_verdict(tally: &mut Tally, bytes: &[u8], audited: &proved::Audit) {
+    let expected = verdict(bytes);
+    let cause = expected.refused.map_or(0, |r| r.cause);
+    let place = expected.refused.map_or(0, |r| r.place);
+    if (expected.accepted as usize, cause, place) != (audited.accepted, audited.cause, audited.place) {
+        tally.differ("c2c_audit of a log", bytes, &expected.to_string(), &format!("{audited:?}"));
+    }
+}
+
+/// Compares what the audit program prints for a log fed in parts.
+fn compare_audit(tally: &mut Tally, program: &str, bytes: &[u8], part: usize) {
+    let expected = format!("{}\n", verdict(bytes));
+    let printed = programs::run(program, bytes, part);
+    tally.runs += 1;
+    if printed != expected.as_bytes() {
+        let what = format!("audit, parts of {part}");
+        tally.differ(&what, bytes, expected.trim(), String::from_utf8_lossy(&printed).trim());
+    }
+}
+
+/// Compares `pack` on a right list, and `unpack` on its containers, of which one may be damaged.
+fn compare_programs(random: &mut Random, tally: &mut Tally, programs: &str) {
+    let number = random.below(2) as u32;
+    let format = Format::from_number(number).expect("the format is valid");
+    let bound = make::list_bound(random);
+    let list = make::list(random, bound);
+    let mut containers = writer::pack(number, &list).expect("the list is right");
+    let input = [&[number as u8], &list[..]].concat();
+    let part = random.pick(&programs::PARTS);
+    let packed = programs::run(&format!("{programs}/pack"), &input, part);
+    tally.runs += 2;
+    if packed != containers.concat() {
+        tally.differ("pack", &input, &hex(&containers.concat()), &hex(&packed));
+    }
+    if random.once_in(2) && !containers.is_empty() {
+        let at = random.below(containers.len());
+        make::damage(random, format, &mut containers[at]);
+    }
+    let input = [&[number as u8], &containers.concat()[..]].concat();
+    let printed = programs::run(&format!("{programs}/unpack"), &input, part);
+    let expected = programs::unpacked(format, &containers);
+    if printed != expected.as_bytes() {
+        tally.differ("unpack", &input, &expected, &String::from_utf8_lossy(&printed));
+    }
+}

@@ -1,0 +1,98 @@
+//! The proved code behind its C functions.
+
+use model::layout::{Grant, Part, CONTAINER, PART};
+use model::ledger::{DIRECTIONS, POOLS};
+
+const GRANT: usize = 6;
+
+extern "C" {
+    fn c2c_check(format: u32, container: *const u8, container_len: usize, room: *mut u8, room_len: usize) -> u32;
+    fn c2c_judge(format: u32, container: *const u8, len: usize) -> u32;
+    fn c2c_fill(
+        format: u32,
+        len: usize,
+        tail: *mut u8,
+        tail_len: usize,
+        grant: *const u8,
+        grant_len: usize,
+        list: *const u8,
+        list_len: usize,
+        container: *mut u8,
+        container_len: usize,
+    ) -> u64;
+    fn c2c_audit(numbers: *const u32, n: usize, entries: *const u8, len: usize) -> u32;
+    fn c2c_audit_place(numbers: *const u32, n: usize, entries: *const u8, len: usize) -> u64;
+    fn c2c_audit_count(numbers: *const u32, n: usize, entries: *const u8, len: usize) -> usize;
+    fn c2c_audit_report(
+        numbers: *const u32,
+        n: usize,
+        entries: *const u8,
+        len: usize,
+        direction: u32,
+        pool: u32,
+    ) -> u64;
+}
+
+/// The host's check of one container.
+pub fn check(format: u32, container: &[u8], room: &mut [u8]) -> u32 {
+    // SAFETY: pointers and lengths come from slices that live through the call.
+    unsafe { c2c_check(format, container.as_ptr(), container.len(), room.as_mut_ptr(), room.len()) }
+}
+
+/// Judges one container from a fresh state.
+pub fn judge(format: u32, container: &[u8]) -> u32 {
+    // SAFETY: pointer and length come from a slice that lives through the call.
+    unsafe { c2c_judge(format, container.as_ptr(), container.len()) }
+}
+
+/// Fills a container; the tail's bytes change in place, its length is in the answer.
+pub fn fill(format: u32, tail: &mut Part, grant: Grant, list: &[u8], container: &mut [u8]) -> u64 {
+    let grant = [u8::from(grant.shared), grant.plane, grant.req, grant.rsp, grant.snp, grant.dat];
+    // SAFETY: pointers and lengths come from slices and arrays that live through the call and do not overlap.
+    unsafe {
+        c2c_fill(
+            format,
+            tail.len,
+            tail.bytes.as_mut_ptr(),
+            PART,
+            grant.as_ptr(),
+            GRANT,
+            list.as_ptr(),
+            list.len(),
+            container.as_mut_ptr(),
+            container.len(),
+        )
+    }
+}
+
+/// What the audit of entries gives up to the first refusal.
+#[derive(Clone, PartialEq, Eq, Debug)]
+pub struct Audit {
+    pub cause: u32,
+    pub place: u64,
+    pub accepted: usize,
+    /// Held times 2^32 plus open, for each direction and pool.
+    pub reports: [[u64; POOLS]; DIRECTIONS],
+}
+
+/// Audits entries, each a direction byte and a container, from the fresh ledger of 33 numbers.
+pub fn audit(numbers: &[u32], entries: &[u8]) -> Audit {
+    assert_eq!(entries.len() % (1 + CONTAINER), 0);
+    let (n, len) = (numbers.len(), entries.len());
+    let (numbers, entries) = (numbers.as_ptr(), entries.as_ptr());
+    let mut reports = [[0; POOLS]; DIRECTIONS];
+    // SAFETY: pointers and lengths come from slices that live through the calls.
+    unsafe {
+        for (direction, pools) in reports.iter_mut().enumerate() {
+            for (pool, report) in pools.iter_mut().enumerate() {
+                *report = c2c_audit_report(numbers, n, entries, len, direction as u32, pool as u32);
+            }
+        }
+        Audit {
+            cause: c2c_audit(numbers, n, entries, len),
+            place: c2c_audit_place(numbers, n, entries, len),
+            accepted: c2c_audit_count(numbers, n, entries, len),
+            reports,
+        }
+    }
+}

@@ -1,0 +1,86 @@
+//! Counts of what was compared, met and found different.
+
+use std::collections::{BTreeMap, BTreeSet};
+
+use model::cause::Refusal;
+
+const SHOWN: usize = 10;
+const MOST_PLACES: usize = 14;
+
+/// How often a cause was met, and where.
+#[derive(Default)]
+struct Met {
+    times: [usize; 3],
+    places: BTreeSet<u64>,
+}
+
+/// What a refusal was met in.
+#[derive(Clone, Copy)]
+pub enum In {
+    Container = 0,
+    List = 1,
+    Log = 2,
+}
+
+/// All counts of a run.
+#[derive(Default)]
+pub struct Tally {
+    pub compared: [usize; 3],
+    pub accepted: [usize; 3],
+    pub entries: usize,
+    pub runs: usize,
+    pub differences: usize,
+    causes: BTreeMap<u32, Met>,
+}
+
+impl Tally {
+    /// Counts one answer of the model.
+    pub fn count(&mut self, place: In, refused: Option<Refusal>) {
+        self.compared[place as usize] += 1;
+        match refused {
+            None => self.accepted[place as usize] += 1,
+            Some(refusal) => {
+                let met = self.causes.entry(refusal.cause).or_default();
+                met.times[place as usize] += 1;
+                met.places.insert(refusal.place);
+            }
+        }
+    }
+
+    /// Counts a difference and shows the first ones.
+    pub fn differ(&mut self, what: &str, input: &[u8], model: &str, proved: &str) {
+        self.differences += 1;
+        if self.differences <= SHOWN {
+            println!("difference in {what}\n  input  {}\n  model  {model}\n  proved {proved}", hex(input));
+        }
+    }
+
+    /// Whether a cause was met.
+    pub fn has_met(&self, cause: u32) -> bool {
+        self.causes.contains_key(&cause)
+    }
+
+    /// Prints the table of causes met.
+    pub fn print_table(&self) {
+        println!("{:>5} {:>10} {:>8} {:>8}  places", "cause", "containers", "lists", "logs");
+        println!("{:>5} {:>10} {:>8} {:>8}", "none", self.accepted[0], self.accepted[1], self.accepted[2]);
+        for (cause, met) in &self.causes {
+            let [containers, lists, logs] = met.times;
+            println!("{cause:>5} {containers:>10} {lists:>8} {logs:>8}  {}", places(&met.places));
+        }
+    }
+}
+
+/// A few places by themselves, many by their number.
+fn places(places: &BTreeSet<u64>) -> String {
+    if places.len() > MOST_PLACES {
+        return format!("{} different", places.len());
+    }
+    let shown: Vec<String> = places.iter().map(u64::to_string).collect();
+    shown.join(" ")
+}
+
+/// Bytes in hex.
+pub fn hex(bytes: &[u8]) -> String {
+    bytes.iter().map(|byte| format!("{byte:02x}")).collect()
+}

@@ -1,0 +1,258 @@
+//! Document 01's examples: M1 to M10 and those that are run only.
+
+use crate::cause::{refusal, Refusal};
+use crate::layout::{granule_start, Format, Grant, Header, Part, CONTAINER, GRANULES};
+use crate::ledger::{Ledger, Receiver, POOLS, SHARED_DAT};
+use crate::list::{read_number, write_list, write_number};
+use crate::log::verdict;
+use crate::message::{Kind, KINDS};
+use crate::reader::{check, is_valid_carry, judge, judge_fresh, Reading};
+use crate::writer::{fill, pack};
+
+/// A message of a kind with a right head and a body of zeros.
+fn message(kind: Kind) -> Vec<u8> {
+    let mut bytes = vec![0; kind.size()];
+    let (number, op) = kind.code();
+    bytes[0] = number;
+    if let Some(op) = op {
+        bytes[1] = op;
+    }
+    if kind == Kind::Activation {
+        bytes[2] = 1;
+    }
+    bytes
+}
+
+/// A container with messages at granules, cut at the container's end.
+fn container(format: Format, messages: &[(usize, Vec<u8>)], grant: Grant) -> [u8; CONTAINER] {
+    let mut bytes = [0; CONTAINER];
+    let mut starts = [false; GRANULES];
+    for (granule, message) in messages {
+        starts[*granule] = true;
+        let granules = format.occupied(*granule, message.len());
+        for (g, part) in granules.into_iter().zip(message.chunks(20)) {
+            bytes[granule_start(g)..granule_start(g) + part.len()].copy_from_slice(part);
+        }
+    }
+    Header { starts, grant }.write(format, &mut bytes);
+    bytes
+}
+
+/// A container with messages of kinds at granules and no grant.
+fn of_kinds(format: Format, kinds: &[(usize, Kind)]) -> [u8; CONTAINER] {
+    let messages: Vec<_> = kinds.iter().map(|&(g, kind)| (g, message(kind))).collect();
+    container(format, &messages, Grant::default())
+}
+
+/// Reads a container from a fresh state.
+fn read(format: Format, container: &[u8]) -> Result<Reading, Refusal> {
+    judge(format, &Part::none(), container)
+}
+
+/// A receiver with one plane and no push, and one capacity.
+fn receiver(pool: usize, capacity: u32) -> Receiver {
+    let mut capacities = [0; POOLS];
+    capacities[pool] = capacity;
+    Receiver { planes: 1, push: 0, capacities }
+}
+
+/// A ledger of format X with one capacity in both directions.
+fn ledger(pool: usize, capacity: u32) -> Ledger {
+    Ledger::fresh(0, [receiver(pool, capacity); 2]).unwrap()
+}
+
+/// A container of format X that grants shared DAT.
+fn granting(dat: u8) -> [u8; CONTAINER] {
+    container(Format::X, &[], Grant { shared: true, dat, ..Grant::default() })
+}
+
+#[test]
+fn m1_zero_container() {
+    for format in [Format::X, Format::Y] {
+        let reading = read(format, &[0; CONTAINER]).unwrap();
+        assert!(reading.finished.is_empty());
+        assert_eq!(reading.carry, Part::none());
+    }
+}
+
+#[test]
+fn m2_one_response() {
+    let list = [&[10, 3][..], &[0; 9]].concat();
+    let filled = fill(0, &Part::none(), Grant::default(), &list, CONTAINER).unwrap();
+    let mut wanted = [0; CONTAINER];
+    wanted[0] = 3;
+    wanted[126] = 1;
+    assert_eq!((filled.container, filled.used, filled.tail), (wanted, 11, Part::none()));
+}
+
+#[test]
+fn m3_long_request_passes_over() {
+    assert_eq!(Format::Y.occupied(4, Kind::ReqL.size()), [4, 6]);
+    let alone = of_kinds(Format::Y, &[(4, Kind::ReqL)]);
+    assert_eq!(read(Format::Y, &alone), Err(refusal(10, 1)));
+    let both = of_kinds(Format::Y, &[(3, Kind::Resp), (4, Kind::ReqL)]);
+    assert_eq!(read(Format::Y, &both).unwrap().finished, [message(Kind::Resp), message(Kind::ReqL)]);
+}
+
+#[test]
+fn m4_m5_carries() {
+    for (format, len) in [(Format::X, 60), (Format::Y, 40)] {
+        let reading = read(format, &of_kinds(format, &[(9, Kind::DataL)])).unwrap();
+        assert_eq!(reading.carry.len, len);
+    }
+}
+
+#[test]
+fn m6_m7_responses() {
+    let five = of_kinds(Format::X, &[(0, Kind::Resp2), (1, Kind::Resp2), (2, Kind::Resp)]);
+    assert_eq!(read(Format::X, &five), Err(refusal(12, 0)));
+    let four = of_kinds(Format::X, &[(0, Kind::Resp), (1, Kind::Resp2), (2, Kind::Resp)]);
+    assert_eq!(read(Format::X, &four).unwrap().finished.len(), 3);
+}
+
+#[test]
+fn m8_capacity() {
+    let ledger = ledger(SHARED_DAT, 2);
+    let next = ledger.audit(0, &granting(2)).unwrap();
+    assert_eq!((next.held(1, SHARED_DAT), next.held(0, SHARED_DAT)), (2, 0));
+    assert_eq!(ledger.audit(0, &granting(3)), Err(refusal(16, SHARED_DAT)));
+}
+
+#[test]
+fn m9_numbers() {
+    let mut bytes = Vec::new();
+    write_number(300, &mut bytes);
+    assert_eq!(bytes, [0xAC, 2]);
+    assert_eq!(read_number(&bytes), Some((300, 2)));
+    assert_eq!(read_number(&[0x80, 0]), None);
+}
+
+#[test]
+fn m10_slot_returns_at_the_end() {
+    let mut data = message(Kind::DataS);
+    data[0] += 16;
+    let begins = container(Format::X, &[(9, data)], Grant::default());
+    let ends = [0; CONTAINER];
+    let begun = ledger(SHARED_DAT, 1).audit(0, &granting(1)).unwrap().audit(1, &begins).unwrap();
+    assert_eq!((begun.held(1, SHARED_DAT), begun.open(1, SHARED_DAT)), (0, 1));
+    assert_eq!(begun.audit(0, &granting(1)), Err(refusal(16, SHARED_DAT)));
+    let ended = begun.audit(1, &ends).unwrap();
+    assert_eq!(ended.open(1, SHARED_DAT), 0);
+    assert!(ended.audit(0, &granting(1)).is_ok());
+}
+
+#[test]
+fn run_only() {
+    let gap = of_kinds(Format::X, &[(0, Kind::Resp), (2, Kind::Resp)]);
+    assert_eq!(read(Format::X, &gap), Err(refusal(10, 0)));
+    let last = of_kinds(Format::Y, &[(9, Kind::Resp), (10, Kind::Resp), (11, Kind::Resp)]);
+    assert!(read(Format::Y, &last).is_ok());
+    let mut wrong = last;
+    wrong[granule_start(11)] = 4;
+    assert_eq!(read(Format::Y, &wrong), Err(refusal(7, 11)));
+    let status = of_kinds(Format::X, &[(0, Kind::Resp), (1, Kind::LinkStatus)]);
+    assert_eq!(read(Format::X, &status), Err(refusal(7, 1)));
+}
+
+#[test]
+fn most_room_is_reached() {
+    let carry = Part::of(&message(Kind::WrReqDataL)[..100]);
+    let requests: Vec<_> = (1..GRANULES).map(|g| (g, Kind::ReqS)).collect();
+    let mut room = [0xEE; 400];
+    let (_, len) = crate::reader::read(Format::X, &carry, &of_kinds(Format::X, &requests), &mut room).unwrap();
+    assert_eq!(len, 352);
+    assert!(room[352..].iter().all(|&byte| byte == 0xEE));
+}
+
+#[test]
+fn every_kind_is_written_and_read() {
+    for format in [0, 1] {
+        for kind in KINDS {
+            let messages = vec![message(kind); 9];
+            let containers = pack(format, &write_list(&messages)).unwrap();
+            let mut carry = Part::none();
+            let mut finished = Vec::new();
+            for container in &containers {
+                let reading = judge(Format::from_number(format).unwrap(), &carry, container).unwrap();
+                finished.extend(reading.finished);
+                carry = reading.carry;
+            }
+            assert_eq!(finished, messages);
+            assert!(containers.len() <= 18);
+        }
+    }
+}
+
+#[test]
+fn orders_of_causes() {
+    let mut room = [0; 351];
+    assert_eq!(check(2, &[], &mut room), 19 * 65_536);
+    assert_eq!(check(0, &[0; 255], &mut room), 65_536);
+    assert_eq!(check(1, &[255; CONTAINER], &mut room), 2 * 65_536);
+    assert_eq!(judge_fresh(1, &[255; CONTAINER]), 3 * 65_536);
+    let bad = Part { len: 10, ..Part::none() };
+    let grant = Grant { shared: true, plane: 9, ..Grant::default() };
+    assert_eq!(fill(0, &bad, grant, &[0; 5000], 0), Err(refusal(19, 0)));
+    assert_eq!(fill(0, &Part::none(), grant, &[0; 5000], 0), Err(refusal(1, 0)));
+    assert_eq!(fill(0, &Part::none(), grant, &[0; 5000], CONTAINER), Err(refusal(18, 0)));
+    assert_eq!(fill(0, &Part::none(), grant, &[0; 5], CONTAINER), Err(refusal(4, 0)));
+    assert_eq!(fill(0, &Part::none(), Grant::default(), &[0; 5], CONTAINER), Err(refusal(17, 0)));
+}
+
+#[test]
+fn carries_that_are_valid() {
+    for kind in KINDS {
+        let whole = message(kind);
+        for len in 1..=100.min(whole.len()) {
+            let valid = len % 20 == 0 && len < whole.len();
+            assert_eq!(is_valid_carry(&Part::of(&whole[..len])), valid);
+        }
+    }
+    let mut carry = Part::of(&message(Kind::DataL)[..40]);
+    carry.bytes[99] = 1;
+    assert!(!is_valid_carry(&carry));
+    carry = Part::of(&message(Kind::DataL)[..40]);
+    carry.bytes[0] += 32;
+    assert!(!is_valid_carry(&carry));
+    assert!(!is_valid_carry(&Part { len: 0, ..carry }));
+}
+
+#[test]
+fn ledgers_that_are_valid() {
+    let fresh = ledger(SHARED_DAT, 1);
+    assert!(fresh.is_valid());
+    let mut data = message(Kind::DataS);
+    data[0] += 16;
+    let mut carrying = fresh.clone();
+    carrying.carries[1] = Part::of(&data[..60]);
+    assert!(!carrying.is_valid());
+    carrying.granted[1][SHARED_DAT] = 1;
+    carrying.begun[1][SHARED_DAT] = 1;
+    assert!(carrying.is_valid());
+    assert_eq!(carrying.audit(2, &[]), Err(refusal(19, 0)));
+    assert_eq!(carrying.audit(1, &[]), Err(refusal(1, 0)));
+    carrying.granted[1][SHARED_DAT] = 2;
+    assert!(!carrying.is_valid());
+    assert_eq!(carrying.audit(1, &[]), Err(refusal(19, 0)));
+    let mut dedicated = fresh.clone();
+    dedicated.carries[0] = Part::of(&message(Kind::DataS)[..20]);
+    assert!(!dedicated.is_valid());
+    let mut plane = receiver(SHARED_DAT, 1);
+    plane.capacities[2] = 1;
+    assert_eq!(Ledger::fresh(0, [plane; 2]), Err(refusal(19, 0)));
+}
+
+#[test]
+fn logs() {
+    let mut log = vec![0; 33];
+    log[1] = 1;
+    log[17] = 1;
+    assert_eq!(verdict(&log).to_string(), "accepted 0");
+    assert_eq!(verdict(&[]).to_string(), "refused 0 17 0");
+    assert_eq!(verdict(&log[..20]).to_string(), "refused 0 17 20");
+    assert_eq!(verdict(&[5, 0x80, 0]).to_string(), "refused 0 19 0");
+    log.extend([0; 2 * 257]);
+    assert_eq!(verdict(&log).to_string(), "accepted 2");
+    assert_eq!(verdict(&log[..log.len() - 1]).to_string(), "refused 1 17 290");
+    assert_eq!(crate::log::verdict_up_to(&log, 1).to_string(), "refused 1 18 0");
+}

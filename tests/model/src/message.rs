@@ -1,0 +1,165 @@
+//! Message heads: kinds, sizes, right heads and places.
+
+use crate::layout::{is_zero, Format, Grant};
+
+/// What type and op select.
+#[derive(Clone, Copy, PartialEq, Eq, Debug)]
+pub enum Kind {
+    ReqS,
+    ReqL,
+    Resp,
+    Resp2,
+    Snoop,
+    DataS,
+    DataL,
+    WrReqDataS,
+    WrReqDataL,
+    LinkStatus,
+    Activation,
+    CrdtGrant,
+    Connect,
+    Property,
+}
+
+pub const KINDS: [Kind; 14] = [
+    Kind::ReqS,
+    Kind::ReqL,
+    Kind::Resp,
+    Kind::Resp2,
+    Kind::Snoop,
+    Kind::DataS,
+    Kind::DataL,
+    Kind::WrReqDataS,
+    Kind::WrReqDataL,
+    Kind::LinkStatus,
+    Kind::Activation,
+    Kind::CrdtGrant,
+    Kind::Connect,
+    Kind::Property,
+];
+
+impl Kind {
+    /// The kind of a message, from its type in byte 0 and, in a MiscU, its op in byte 1.
+    pub fn of(message: &[u8]) -> Option<Kind> {
+        match (message.first()? & 15, message.get(1)) {
+            (1, _) => Some(Kind::ReqS),
+            (2, _) => Some(Kind::ReqL),
+            (3, _) => Some(Kind::Resp),
+            (4, _) => Some(Kind::Resp2),
+            (5, _) => Some(Kind::Snoop),
+            (6, _) => Some(Kind::DataS),
+            (7, _) => Some(Kind::DataL),
+            (8, _) => Some(Kind::WrReqDataS),
+            (9, _) => Some(Kind::WrReqDataL),
+            (10, Some(0)) => Some(Kind::LinkStatus),
+            (10, Some(1)) => Some(Kind::Activation),
+            (10, Some(2)) => Some(Kind::CrdtGrant),
+            (10, Some(3)) => Some(Kind::Connect),
+            (10, Some(4)) => Some(Kind::Property),
+            _ => None,
+        }
+    }
+
+    /// The type and, in a MiscU, the op.
+    pub fn code(self) -> (u8, Option<u8>) {
+        match self {
+            Kind::ReqS => (1, None),
+            Kind::ReqL => (2, None),
+            Kind::Resp => (3, None),
+            Kind::Resp2 => (4, None),
+            Kind::Snoop => (5, None),
+            Kind::DataS => (6, None),
+            Kind::DataL => (7, None),
+            Kind::WrReqDataS => (8, None),
+            Kind::WrReqDataL => (9, None),
+            Kind::LinkStatus => (10, Some(0)),
+            Kind::Activation => (10, Some(1)),
+            Kind::CrdtGrant => (10, Some(2)),
+            Kind::Connect => (10, Some(3)),
+            Kind::Property => (10, Some(4)),
+        }
+    }
+
+    /// The size in bytes.
+    pub fn size(self) -> usize {
+        match self {
+            Kind::Resp | Kind::LinkStatus | Kind::Activation | Kind::Connect => 10,
+            Kind::CrdtGrant => 16,
+            Kind::ReqS | Kind::Resp2 | Kind::Snoop | Kind::Property => 20,
+            Kind::ReqL => 40,
+            Kind::DataS => 80,
+            Kind::DataL | Kind::WrReqDataS => 100,
+            Kind::WrReqDataL => 120,
+        }
+    }
+
+    /// Whether the type is MiscU.
+    pub fn is_misc(self) -> bool {
+        self.code().0 == 10
+    }
+
+    /// Whether the message pays a REQ and a DAT.
+    pub fn is_push(self) -> bool {
+        matches!(self, Kind::WrReqDataS | Kind::WrReqDataL)
+    }
+
+    /// What the message counts for in the limit of four responses.
+    pub fn responses(self) -> usize {
+        match self {
+            Kind::Resp => 1,
+            Kind::Resp2 => 2,
+            _ => 0,
+        }
+    }
+
+    /// Whether a message of this kind may begin at a granule.
+    pub fn may_begin_at(self, format: Format, granule: usize) -> bool {
+        if self == Kind::LinkStatus {
+            return granule == 0;
+        }
+        if format.is_small(granule) {
+            let fits = self.size() <= format.granule_size(granule);
+            return self == Kind::Resp || self.is_misc() && fits;
+        }
+        true
+    }
+
+    /// Whether the head bits and bytes are right, from the message's bytes in its first granule.
+    pub fn is_well_headed(self, message: &[u8]) -> bool {
+        let flags = message[0] >> 4;
+        match self {
+            Kind::ReqS | Kind::ReqL => true,
+            Kind::Resp | Kind::Resp2 | Kind::Snoop => flags == 0,
+            Kind::DataS | Kind::DataL => flags <= 1,
+            Kind::WrReqDataS | Kind::WrReqDataL => message[1] <= 1,
+            Kind::LinkStatus | Kind::Connect | Kind::Property => flags == 0,
+            Kind::Activation => flags == 0 && (1..=5).contains(&message[2]),
+            Kind::CrdtGrant => flags == 0 && is_grant_right(message),
+        }
+    }
+}
+
+/// Whether bytes 2 to 6 of a CrdtGrant are a right grant form and bytes 7 to 15 are zero.
+fn is_grant_right(message: &[u8]) -> bool {
+    message[2] >> 4 == 0 && grant(message).is_well_formed() && is_zero(&message[7..16])
+}
+
+/// The grant of a CrdtGrant.
+pub fn grant(message: &[u8]) -> Grant {
+    Grant::from_form(&message[2..7])
+}
+
+/// Whether bit 4 of byte 0 is set.
+pub fn is_shared(message: &[u8]) -> bool {
+    message[0] >> 4 & 1 == 1
+}
+
+/// Bits 5 to 7 of byte 0.
+pub fn plane(message: &[u8]) -> usize {
+    usize::from(message[0] >> 5)
+}
+
+/// Whether shared DAT pays for a WrReqData.
+pub fn is_data_shared(message: &[u8]) -> bool {
+    message[1] & 1 == 1
+}
