@@ -2,4 +2,5 @@ pub mod Refusals
 pub mod Packing
 pub mod TapLaws
 pub mod Books
+pub mod LogTap
 pub mod Examples
