@@ -1,28 +1,46 @@
--- An accepted log is the tap record of some history. Assumes nothing.
-use Prim.Native.Nat.{ℕ}
+-- An accepted log is the tap record of some history, and a log that is refused by a reading or pool cause is not, with the refused entry.
+-- Assumes nothing.
+use Prim.Native.Nat.{ℕ, zero, suc, _<_}
+use native.Mathlib.Omega.{arith}
 use mathlib.Core.Path.{_≡_, refl, sym, ap, subst, _∙_}
 use mathlib.Core.Bool.{true}
 use mathlib.Core.List.{List, [], _∷_}
 use mathlib.Core.Option.{Option, some}
 use lib.ListN.{getD}
+use Rattle.lists.proofs.Tests.{never-both}
+use Rattle.cause.specs.declared.Cause.{Cause}
 use Rattle.ledger.specs.Audit.{configured, auditing}
 use Rattle.ledger.specs.Log.{receiverAt}
 use Rattle.ledger.specs.Calls.{AllAccepted, AcceptedLog}
 use Rattle.ledger.specs.Calls as log
 use Rattle.ledger.specs.declared.receiver.Receiver.{Receiver}
-use Rattle.ledger.specs.declared.ledger.Answer.{Answer}
+use Rattle.ledger.specs.declared.ledger.Ledger.{Ledger}
+use Rattle.ledger.specs.declared.ledger.Answer.the-variants.{Refused}
 use Rattle.history.specs.Trace.{Trace, start, _▷_, whole}
 use Rattle.history.specs.Link.{Direction, direction0, direction1, numberOf, directionOf, Link}
 use Rattle.history.specs.History.{Entry, Tapped}
 use Rattle.history.specs.Calls.{Call, Auditor, note, after, accepted, Admits}
 use Rattle.demands.specs.Tap.{linkOf, accepting, auditorOf}
-use Rattle.demands.specs.LogTap.{tapOf, LogTapped}
+use Rattle.demands.specs.LogTap.{tapOf, linkAt, LogTapped, behind, Begins, last, before, RefusedLog, LogNotTapped, LogDemand}
 use Rattle.demands.specs.Demand3.{Demand3}
+use Rattle.ledger.specs.Stream.{most}
+use Rattle.ledger.proofs.AcceptedTheorem.{accepted-only}
 use Rattle.demands.proofs.Books.{demand3}
+use Rattle.demands.proofs.LogRefused.{refused-only}
 
 direction-number : (d : Direction) → directionOf (numberOf d) ≡ some d
 direction-number direction0 = refl
 direction-number direction1 = refl
+
+of-number : (n : ℕ) → n < 2 → (d : Direction) × (numberOf d ≡ n)
+of-number zero h = (direction0, refl)
+of-number (suc zero) h = (direction1, refl)
+of-number (suc (suc n)) h = absurd (omega arith)
+
+-- the refused entry has a direction
+last-side : {es : List log.Entry} {x : log.Entry} {l : List ℕ} → Begins es x l → x .direction < 2
+last-side (last v u g h) = omega arith
+last-side (before v u g h b) = last-side b
 
 module _ (f : ℕ) (a b : Receiver) (v : configured f a b ≡ true) where
   abbrev K : Link
@@ -48,6 +66,44 @@ module _ (f : ℕ) (a b : Receiver) (v : configured f a b ≡ true) where
       let r : accepted U (xs ▷ x) ≡ note (accepted U xs) (directionOf (e .direction)) (e .container) = rw q in
       subst (λ (t : Trace (Entry (List ℕ))). Tapped K (tapOf t es)) r (all-more (xs ▷ x) es (h .1) (subst (Tapped K) (sym r) (one-more xs x q)))
 
+  -- calls that are accepted one after the other, as a list of calls of the audit
+  ran : (xs : Trace (Call (List ℕ))) (es : List log.Entry) → AllAccepted (after U xs) es
+      → (ys : Trace (Call (List ℕ))) × (after U ys ≡ behind (after U xs) es) × (accepted U ys ≡ tapOf (accepted U xs) es)
+  ran xs [] h = (xs, refl, refl)
+  ran xs (e ∷ es) h =
+      let x : Call (List ℕ) = record { number = e .direction; container = e .container } in
+      let q : U .audit (after U xs) x .accepts ≡ true = ap accepting (h .0) in
+      let r : accepted U (xs ▷ x) ≡ note (accepted U xs) (directionOf (e .direction)) (e .container) = rw q in
+      let t = ran (xs ▷ x) es (h .1) in
+      (t .0, t .1, t .2 ∙ ap (λ (a : Trace (Entry (List ℕ))). tapOf a es) r)
+
+  -- what is refused behind them makes no tap record
+  none-more : (ys : Trace (Call (List ℕ))) (x : Call (List ℕ)) → x .number < 2 → (k : Cause) (p : ℕ) → auditing (after U ys) (x .number) (x .container) .answer ≡ Refused k p
+      → Tapped K (note (accepted U ys) (directionOf (x .number)) (x .container)) → ⊥
+  none-more ys x h k p e t =
+      let d = of-number (x .number) h in
+      let q : directionOf (x .number) ≡ some (d .0) = ap directionOf (sym (d .1)) ∙ direction-number (d .0) in
+      let w : Tapped K (accepted U ys ▷ record { direction = d .0; container = x .container }) = subst (λ (o : Option Direction). Tapped K (note (accepted U ys) o (x .container))) q t in
+      let y : U .audit (after U ys) x .accepts ≡ true = demand3 .books-close f a b v (ys ▷ x) .accepts-exactly ys x (whole refl) .1 (d .0, d .1, w) in
+      never-both (ap accepting e) y
+
 pub log-tapped : (limit : ℕ) (l : List ℕ) (n : ℕ) (a : AcceptedLog limit l n) → LogTapped limit l n a
 log-tapped limit l n a =
     all-more (getD (a .numbers) 0 0) (receiverAt (a .numbers) 1) (receiverAt (a .numbers) 17) (a .valid) start (a .calls) (a .accepted) (start, tt, refl)
+
+pub log-not-tapped : (l : List ℕ) (n : ℕ) (k : Cause) (p : ℕ) (a : RefusedLog l n k p) → LogNotTapped l n k p a
+log-not-tapped l n k p a t =
+    let f = getD (a .numbers) 0 0 in
+    let r0 = receiverAt (a .numbers) 1 in
+    let r1 = receiverAt (a .numbers) 17 in
+    let r = ran f r0 r1 (a .valid) start (a .calls) (a .accepted) in
+    let x : Call (List ℕ) = record { number = a .next .direction; container = a .next .container } in
+    none-more f r0 r1 (a .valid) (r .0) x (last-side (a .encoded)) k p
+    (ap (λ (s : Ledger). auditing s (a .next .direction) (a .next .container) .answer) (r .1) ∙ a .refused)
+    (subst (λ (t : Trace (Entry (List ℕ))). Tapped (linkAt (a .numbers)) (note t (directionOf (a .next .direction)) (a .next .container))) (sym (r .2)) t)
+
+pub log-demand : LogDemand
+log-demand = record {
+  accepted = λ l n e. let a = accepted-only most l n e in (a, log-tapped most l n a);
+  refused = λ l n k p f e. let a = refused-only most l n k p f e in (a, log-not-tapped l n k p a);
+}
