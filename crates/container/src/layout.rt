@@ -1,5 +1,6 @@
 // Where the granules and the header bytes of a container lie.
 ghost use mathlib.Core.Path.{_≡_};
+ghost use Prim.Native.Nat.{_/_, _%_, _^_};
 ghost use Rattle.container.specs.Layout.{start, formatOf, header, msgStart, bit};
 use crate::bytes::byte_at;
 
@@ -58,12 +59,19 @@ pub fn read_starts(format: u32, container: &[u8]) -> u16
     low + 256 * (high % 16)
 }
 
+// Bit g of MsgStart, as a number.
+pub fn start_bit(starts: u16, g: u8) -> u8
+    ensures { λ r. ⌜ r ≡ starts / 2 ^ g % 2 ⌝ }
+{
+    if 15 < g {
+        return 0;
+    }
+    ((starts >> (g as u16)) % 2) as u8
+}
+
 // Whether bit g of MsgStart is set.
 pub fn starts_at(starts: u16, g: u8) -> bool
     ensures { λ r. ⌜ r ≡ bit starts g ⌝ }
 {
-    if 15 < g {
-        return false;
-    }
-    (starts >> (g as u16)) % 2 == 1
+    start_bit(starts, g) == 1
 }

@@ -17,4 +17,5 @@ pub use layout::locate_header;
 pub use layout::measure_granule;
 pub use layout::read_header;
 pub use layout::read_starts;
+pub use layout::start_bit;
 pub use layout::starts_at;

@@ -10,7 +10,7 @@ use lib.Dec.{eqb, ltb}
 use borrow.Author.Tests.{eq-eqb, ne-eqb, eqb-true, eqb-false, ltb-true, not-true, not-false}
 use Rattle.lists.specs.Pick.{pick}
 use Rattle.lists.specs.Parts.{IsBytes}
-use Rattle.lists.proofs.Tests.{cases, and-right, and-both, and-false}
+use Rattle.lists.proofs.Tests.{cases, and-right}
 use Rattle.lists.proofs.PickLaws.{pick-both, pick-by}
 use Rattle.cause.specs.Checks.{firstFault}
 use Rattle.cause.specs.declared.Verdict.{Verdict}
@@ -21,7 +21,7 @@ use Rattle.container.specs.Grants.{grantOf}
 use Rattle.container.specs.declared.grant.Grant.{Grant}
 use Rattle.message.specs.Heads.{miscBy, crdtGrant}
 use Rattle.ledger.specs.Pools.{grantChecks, grantedBy}
-use Rattle.ledger.specs.Counting.{raised, firstAt, secondAt, grantsAt, grantAt, crdtChecks, crdtGives, Tallied}
+use Rattle.ledger.specs.Counting.{raised, firstAt, secondAt, startedAt, grantsAt, grantAt, crdtChecks, crdtGives, Tallied}
 use Rattle.ledger.specs.declared.tally.Tally.{Tally}
 use Rattle.ledger.specs.declared.receiver.Receiver.{Receiver}
 use Rattle.ledger.proofs.RowLaws.{row-at}
@@ -173,8 +173,13 @@ sound-pooled r n e = weaker (n .shc) (eqb (n .dat) 0) (r .push) (ltb (n .rp) 2) 
     weaker false true c d h = refl
     weaker false false c d h = and-right c d h
 
+-- a CrdtGrant, by a byte 0 that is 0 where nothing starts
+started-misc : (t : Bool) (first second : ℕ) → miscBy (pick t first 0 % 16) second crdtGrant ≡ (t && miscBy (first % 16) second crdtGrant)
+started-misc true first second = refl
+started-misc false first second = refl
+
 -- the grant that starts in granule g, if there is one
-module _ (r : Receiver) (c : List ℕ) (w g : ℕ) (l : List ℕ) {s : Bool} (es : s ≡ bit w g) where
+module _ (r : Receiver) (c : List ℕ) (w g : ℕ) (l : List ℕ) {first a : ℕ} (ef : first ≡ startedAt c w g) (ea : a ≡ start g) {m : Bool} (em : m ≡ miscBy (first % 16) (getD c (a + 1) 0) crdtGrant) where
   abbrev Passed : Verdict → List ℕ → Type 0
   Passed v d =
       (v ≡ firstFault (pick (grantsAt c w g) (grantChecks r (grantAt c g)) []))
@@ -183,24 +188,19 @@ module _ (r : Receiver) (c : List ℕ) (w g : ℕ) (l : List ℕ) {s : Bool} (es
   abbrev gives : ℕ → ℕ
   gives p = grantedBy p (grantAt c g)
 
-  pub no-start : not s ≡ true → length l ≡ 14 → Passed Sound l
-  no-start t = passed-over (grantsAt c w g) (grantChecks r (grantAt c g)) gives l (rw (sym es ∙ not-true s t))
+  misc-is : m ≡ grantsAt c w g
+  misc-is = em ∙ rw (ef, ea) (started-misc (bit w g) (firstAt c g) (secondAt c g))
 
-  module _ {a : ℕ} (ea : a ≡ start g) {m : Bool} (em : m ≡ miscBy (getD c a 0 % 16) (getD c (a + 1) 0) crdtGrant) where
-    misc-is : m ≡ miscBy (firstAt c g % 16) (secondAt c g) crdtGrant
-    misc-is = em ∙ ap (λ (i : ℕ). miscBy (getD c i 0 % 16) (getD c (i + 1) 0) crdtGrant) ea
+  pub no-grant : not m ≡ true → length l ≡ 14 → Passed Sound l
+  no-grant t = passed-over (grantsAt c w g) (grantChecks r (grantAt c g)) gives l (sym misc-is ∙ not-true m t)
 
-    pub no-grant : not m ≡ true → length l ≡ 14 → Passed Sound l
-    no-grant t = passed-over (grantsAt c w g) (grantChecks r (grantAt c g)) gives l (rw (sym misc-is ∙ not-true m t) (and-false (bit w g)))
-
-    pub some-grant : not s ≡ false → not m ≡ false → {n : Grant} → n ≡ grantOf (getD c (a + 2) 0) (getD c (a + 3) 0) (getD c (a + 4) 0) (getD c (a + 5) 0) (getD c (a + 6) 0)
-        → {v : Verdict} {d : List ℕ} → v ≡ firstFault (grantChecks r n) → (v ≡ Sound → d ≡ raised (λ p. grantedBy p n) l) → Passed v d
-    some-grant t z {n} en u x =
-        let e : n ≡ grantAt c g = en ∙ ap (λ (i : ℕ). grantOf (getD c (i + 2) 0) (getD c (i + 3) 0) (getD c (i + 4) 0) (getD c (i + 5) 0) (getD c (i + 6) 0)) ea in
-        passed (grantsAt c w g) (grantChecks r (grantAt c g)) gives l
-        (and-both (bit w g) (miscBy (firstAt c g % 16) (secondAt c g) crdtGrant) (sym es ∙ not-false s t) (sym misc-is ∙ not-false m z))
-        (u ∙ ap (λ (y : Grant). firstFault (grantChecks r y)) e)
-        (λ q. x q ∙ ap (λ (y : Grant). raised (λ p. grantedBy p y) l) e)
+  pub some-grant : not m ≡ false → {n : Grant} → n ≡ grantOf (getD c (a + 2) 0) (getD c (a + 3) 0) (getD c (a + 4) 0) (getD c (a + 5) 0) (getD c (a + 6) 0)
+      → {v : Verdict} {d : List ℕ} → v ≡ firstFault (grantChecks r n) → (v ≡ Sound → d ≡ raised (λ p. grantedBy p n) l) → Passed v d
+  some-grant t {n} en u x =
+      let e : n ≡ grantAt c g = en ∙ ap (λ (i : ℕ). grantOf (getD c (i + 2) 0) (getD c (i + 3) 0) (getD c (i + 4) 0) (getD c (i + 5) 0) (getD c (i + 6) 0)) ea in
+      passed (grantsAt c w g) (grantChecks r (grantAt c g)) gives l (sym misc-is ∙ not-false m t)
+      (u ∙ ap (λ (y : Grant). firstFault (grantChecks r y)) e)
+      (λ q. x q ∙ ap (λ (y : Grant). raised (λ p. grantedBy p y) l) e)
 
 pub form-plane : (a req rsp snp dat : ℕ) {n : Grant} → n ≡ grantOf a req rsp snp dat → n .rp < 8
 form-plane a req rsp snp dat e = omega (arith, ap (λ (x : Grant). x .rp) e)

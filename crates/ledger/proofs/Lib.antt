@@ -7,6 +7,7 @@ pub mod ReceiverCases
 pub mod BookLaws
 pub mod PassLaws
 pub mod TallyLaws
+pub mod TypeLaws
 pub mod BegunLaws
 pub mod GrantedLaws
 pub mod EntryLaws

@@ -40,6 +40,10 @@ firstAt c g = getD c (start g) 0
 abbrev pub secondAt : List ℕ → ℕ → ℕ
 secondAt c g = getD c (start g + 1) 0
 
+-- byte 0 of what starts in granule g by MsgStart w, 0 where nothing does
+abbrev pub startedAt : List ℕ → ℕ → ℕ → ℕ
+startedAt c w g = pick (bit w g) (firstAt c g) 0
+
 -- what starts in granule g pays, where bit g of MsgStart w is set
 abbrev pub paidAt : List ℕ → ℕ → ℕ → ℕ → ℕ
 paidAt c w g p = pick (bit w g) (chargedTo p (listed (chargesBy (firstAt c g % 16) (firstAt c g) (secondAt c g)))) 0

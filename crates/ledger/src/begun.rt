@@ -7,10 +7,10 @@ ghost use Rattle.cause.specs.declared.Verdict.the-variants.{Sound};
 ghost use Rattle.ledger.specs.Counting.{Small, raised, startChecks, startsChecks, paidAt, startsPay, Tallied};
 use crate::receiver::Receiver;
 use crate::tally::Tally;
-use crate::tally::add_payment;
+use crate::tally::add_charges;
+use crate::tally::read_start;
 use cause::Verdict;
 use container::locate_granule;
-use container::starts_at;
 
 // What starts in granule g, if anything: judged, and its payment added.
 fn charge_granule(
@@ -25,17 +25,13 @@ fn charge_granule(
     ensures verdict { λ r. ⌜ r ≡ firstFault (startChecks receiver (now (container .entry)) starts g) ⌝ }
     ensures counts { λ r. ⌜ (r ≡ Sound → now (counts .exit) ≡ raised (paidAt (now (container .entry)) starts g) (now (counts .entry))) ⌝ }
 {
-    if !starts_at(starts, g) {
-        return Verdict::Sound;
-    }
-    let a = locate_granule(g);
-    let first = container[a];
-    let second = container[a + 1];
+    let first = read_start(container, starts, g);
+    let second = container[locate_granule(g) + 1];
     let verdict = receiver.judge_payment(first % 16, first, second);
     if let Verdict::Faulty(_, _) = verdict {
         return verdict;
     }
-    add_payment(counts, first, second);
+    add_charges(counts, first, second);
     verdict
 }
 

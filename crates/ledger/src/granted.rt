@@ -13,11 +13,11 @@ ghost use Rattle.ledger.specs.Counting.{Small, raised, grantsAt, grantAt
 use crate::receiver::Receiver;
 use crate::tally::Tally;
 use crate::tally::add_count;
+use crate::tally::read_start;
 use cause::Verdict;
 use container::Grant;
 use container::decode_grant;
 use container::locate_granule;
-use container::starts_at;
 use message::is_misc;
 
 // The pool of a grant's REQ count.
@@ -84,11 +84,9 @@ fn grant_granule(
     ensures verdict { λ r. ⌜ r ≡ firstFault (pick (grantsAt (now (container .entry)) starts g) (grantChecks receiver (grantAt (now (container .entry)) g)) []) ⌝ }
     ensures counts { λ r. ⌜ (r ≡ Sound → now (counts .exit) ≡ raised (λ p. pick (grantsAt (now (container .entry)) starts g) (grantedBy p (grantAt (now (container .entry)) g)) 0) (now (counts .entry))) ⌝ }
 {
-    if !starts_at(starts, g) {
-        return Verdict::Sound;
-    }
     let a = locate_granule(g);
-    if !is_misc(container[a] % 16, container[a + 1], 2) {
+    let first = read_start(container, starts, g);
+    if !is_misc(first % 16, container[a + 1], 2) {
         return Verdict::Sound;
     }
     let grant = decode_grant(

@@ -1,17 +1,22 @@
 // Counts by pool, and how they grow.
 ghost use mathlib.Core.Path.{_≡_};
-ghost use Prim.Native.Nat.{_+_, _%_, _<_, _^_};
+ghost use Prim.Native.Nat.{_+_, _/_, _%_, _<_, _^_};
 ghost use lib.Dec.{eqb};
 ghost use lib.ListN.{length, getD};
 ghost use Rattle.lists.specs.Pick.{pick};
 ghost use Rattle.message.specs.Charges.{listed, chargesBy, charges};
 ghost use Rattle.ledger.specs.Pools.{chargedTo};
 ghost use Rattle.ledger.specs.Audit.{row};
-ghost use Rattle.ledger.specs.Counting.{raised, Small};
+ghost use Rattle.ledger.specs.Counting.{raised, Small, startedAt};
 use cause::Verdict;
 use container::byte_at;
+use container::locate_granule;
+use container::start_bit;
 use message::Charges;
 use message::charge_message;
+use message::choose_dat;
+use message::choose_push;
+use message::choose_req;
 
 // The first fault, and the counts by pool.
 pub struct Tally {
@@ -45,6 +50,46 @@ pub fn add_payment(counts: &mut [u32], first: u8, second: u8)
             add_count(counts, two.pool, two.amount);
         }
     }
+}
+
+// The types that pay a REQ, an RSP, an SNP, a DAT of DataS and DataL, and a DAT of push data: bit t for type t.
+const REQ_TYPES: u16 = 0x306;
+
+const RSP_TYPES: u16 = 0x18;
+
+const SNP_TYPES: u16 = 0x20;
+
+const DAT_TYPES: u16 = 0xC0;
+
+const PUSH_TYPES: u16 = 0x300;
+
+// 1 where a type is one of these, else 0.
+fn count_type(types: u16, kind: u8) -> u32
+    requires { ⌜ kind < 16 ⌝ }
+    ensures { λ r. ⌜ r ≡ types / 2 ^ kind % 2 ⌝ }
+{
+    ((types >> (kind as u16)) % 2) as u32
+}
+
+// Adds the same as `add_payment` without a test of the type, for the granule pass.
+pub fn add_charges(counts: &mut [u32], first: u8, second: u8)
+    requires { ⌜ (length (now counts) ≡ 14) × Small (now counts) ⌝ }
+    ensures { λ _. ⌜ now (counts .exit) ≡ raised (λ p. chargedTo p (listed (chargesBy (first % 16) first second))) (now (counts .entry)) ⌝ }
+{
+    let kind = first % 16;
+    add_count(counts, choose_req(first), count_type(REQ_TYPES, kind));
+    add_count(counts, 9, count_type(RSP_TYPES, kind));
+    add_count(counts, 10, count_type(SNP_TYPES, kind));
+    add_count(counts, choose_dat(first), count_type(DAT_TYPES, kind));
+    add_count(counts, choose_push(second), count_type(PUSH_TYPES, kind));
+}
+
+// Byte 0 of what starts in granule g, 0 where nothing does.
+pub fn read_start(container: &[u8], starts: u16, g: u8) -> u8
+    requires { ⌜ (length (now container) ≡ 256) × (g < 12) ⌝ }
+    ensures { λ r. ⌜ r ≡ startedAt (now (container .entry)) starts g ⌝ }
+{
+    container[locate_granule(g)] * start_bit(starts, g)
 }
 
 // What a carried message pays of each pool.

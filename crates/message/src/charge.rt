@@ -18,7 +18,7 @@ pub enum Charges {
 }
 
 // The pool of a REQ charge, by byte 0.
-fn choose_req(first: u8) -> u8
+pub fn choose_req(first: u8) -> u8
     ensures { λ r. ⌜ r ≡ reqPool first ⌝ }
 {
     if first / 16 % 2 == 1 {
@@ -28,7 +28,7 @@ fn choose_req(first: u8) -> u8
 }
 
 // The pool of a DAT charge of DataS or DataL, by byte 0.
-fn choose_dat(first: u8) -> u8
+pub fn choose_dat(first: u8) -> u8
     ensures { λ r. ⌜ r ≡ datPool first ⌝ }
 {
     if first / 16 % 2 == 1 {
@@ -38,7 +38,7 @@ fn choose_dat(first: u8) -> u8
 }
 
 // The pool of a DAT charge of push data, by byte 1.
-fn choose_push(second: u8) -> u8
+pub fn choose_push(second: u8) -> u8
     ensures { λ r. ⌜ r ≡ pushPool second ⌝ }
 {
     if second % 2 == 1 {

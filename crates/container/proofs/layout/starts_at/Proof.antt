@@ -1,23 +1,16 @@
 -- `container::layout::starts_at` meets its contract.
-use Prim.Native.Nat.{_<_, _≤_, _^_}
-use native.Mathlib.Omega.{arith}
-use native.Mathlib.Nat.{div-eq-of-lt, pow-le-pow-right}
+use Prim.Native.Nat.{ℕ}
+use mathlib.Core.Path.{ap}
+use lib.Dec.{eqb}
 use borrow.Author.Needs.{needs}
 use Rattle.container.proofs.layout.starts_at.Statement.{statement}
 use Rattle.container.proofs.layout.starts_at.Tie as tie
 
+start-bit-requires : tie.Need-start-bit-requires
+start-bit-requires c κs = search needs
+
 returns : tie.Need-returns
-returns c =
-    let g = c .before .args .g in
-    let wide : 2 ^ 16 ≤ 2 ^ g = pow-le-pow-right {n = 2} (omega arith) {i = 16} {j = g} (omega arith) in
-    let below : c .before .args .starts < 2 ^ g = omega arith in
-    rw (div-eq-of-lt below)
-
-shr-result : tie.Need-shr-result
-shr-result c = search needs
-
-returns-2 : tie.Need-returns-2
-returns-2 c = search needs
+returns c = ap (λ (n : ℕ). eqb n 1) (c .start-bit .ensures)
 
 pub starts-at-spec : {M : Type 1} → statement M
-starts-at-spec = tie.close (tie.spec returns shr-result returns-2)
+starts-at-spec = tie.close (tie.spec start-bit-requires returns)
