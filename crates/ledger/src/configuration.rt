@@ -1,11 +1,11 @@
 // The configuration of a log: its numbers, judged as they are read, and the ledger that they start.
 ghost use mathlib.Core.Path.{_≡_};
 ghost use Prim.Native.Nat.{_≤_, _<_};
-ghost use lib.ListN.{take, drop};
 ghost use Rattle.cause.specs.declared.Verdict.the-variants.{Faulty};
 ghost use Rattle.ledger.specs.Log.{receiverAt, suits, valueOk, settingOf, settingBy, ledgerOf};
 use crate::ledger::Ledger;
 use crate::receiver::Receiver;
+use crate::table::take_row;
 use cause::Cause;
 use cause::Verdict;
 use record::Number;
@@ -18,24 +18,12 @@ pub struct Configuration {
     pub verdict: Verdict,
 }
 
-// The fourteen capacities from `start` on.
-fn take_capacities(numbers: [u32; 33], start: usize) -> [u32; 14]
-    requires { ⌜ start ≤ 19 ⌝ }
-    ensures { λ r. ⌜ r ≡ take 14 (drop start numbers) ⌝ }
-{
-    let mut out = [0u32; 14];
-    for i in 0..14 {
-        out[i] = numbers[start + i];
-    }
-    out
-}
-
 // The receiver of the sixteen numbers from `start` on.
 fn take_receiver(numbers: [u32; 33], start: usize) -> Receiver
     requires { ⌜ start ≤ 17 ⌝ }
     ensures { λ r. ⌜ r ≡ receiverAt numbers start ⌝ }
 {
-    let capacities = take_capacities(numbers, start + 2);
+    let capacities = take_row(&numbers, start + 2);
     Receiver {
         planes: numbers[start],
         push: numbers[start + 1] == 1,

@@ -1,17 +1,17 @@
 // A table of two directions by fourteen pools: nested in locals and arguments, flat in the state.
 ghost use mathlib.Core.Path.{_≡_};
-ghost use Prim.Native.Nat.{_≤_};
-ghost use lib.ListN.{take, drop};
+ghost use Prim.Native.Nat.{_+_, _≤_};
+ghost use lib.ListN.{length, take, drop};
 ghost use Rattle.ledger.specs.Counting.{nested, flattened};
 
-// Fourteen entries of a flat table, from `start` on.
-fn take_row(table: [u32; 28], start: usize) -> [u32; 14]
-    requires { ⌜ start ≤ 14 ⌝ }
-    ensures { λ r. ⌜ r ≡ take 14 (drop start table) ⌝ }
+// Fourteen numbers of a list, from `start` on.
+pub fn take_row(list: &[u32], start: usize) -> [u32; 14]
+    requires { ⌜ start + 14 ≤ length (now list) ⌝ }
+    ensures { λ r. ⌜ r ≡ take 14 (drop start (now (list .entry))) ⌝ }
 {
     let mut out = [0u32; 14];
     for i in 0..14 {
-        out[i] = table[start + i];
+        out[i] = list[start + i];
     }
     out
 }
@@ -20,8 +20,8 @@ fn take_row(table: [u32; 28], start: usize) -> [u32; 14]
 pub fn nest(table: [u32; 28]) -> [[u32; 14]; 2]
     ensures { λ r. ⌜ r ≡ nested table ⌝ }
 {
-    let first = take_row(table, 0);
-    let second = take_row(table, 14);
+    let first = take_row(&table, 0);
+    let second = take_row(&table, 14);
     [first, second]
 }
 

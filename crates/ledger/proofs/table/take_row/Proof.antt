@@ -2,7 +2,6 @@
 use Prim.Native.Nat.{ℕ, _+_, _-_, _≤_}
 use mathlib.Core.Path.{_≡_, refl, _∙_}
 use mathlib.Core.List.{List}
-use borrow.Author.Needs.{needs}
 use native.Mathlib.Omega.{arith}
 use lib.ListN.{length, take, drop, getD, replicate}
 use Rattle.lists.proofs.Fill.{grown, grown-more, grown-all}
@@ -11,10 +10,10 @@ use Rattle.ledger.proofs.table.take_row.Statement.{statement}
 use Rattle.ledger.proofs.table.take_row.Tie as tie
 
 abbrev Inv-loop : tie.InvT-loop
-Inv-loop start table out₀ i₀ out i = (i ≤ 14) × (out ≡ grown (take 14 (drop start table)) (replicate 14 0) i)
+Inv-loop list start out₀ i₀ out i = (i ≤ 14) × (out ≡ grown (take 14 (drop start list)) (replicate 14 0) i)
 
 abbrev μ-loop : tie.MeasureT-loop
-μ-loop start table out₀ i₀ out i = 14 - i
+μ-loop list start out₀ i₀ out i = 14 - i
 
 loop-holds : tie.Need-loop-holds Inv-loop μ-loop
 loop-holds c = (omega arith, refl)
@@ -25,8 +24,8 @@ add-out c = omega arith
 mul-out : tie.Need-mul-out Inv-loop μ-loop
 mul-out c = omega arith
 
-array-read-out : tie.Need-array-read-out Inv-loop μ-loop
-array-read-out c = omega arith
+shared-slice-read-out : tie.Need-shared-slice-read-out Inv-loop μ-loop
+shared-slice-read-out c = omega arith
 
 mul-out-2 : tie.Need-mul-out-2 Inv-loop μ-loop
 mul-out-2 c = omega arith
@@ -42,21 +41,23 @@ loop-less c = omega arith
 
 loop-again : tie.Need-loop-again Inv-loop μ-loop
 loop-again c =
-    let at-loop = c .before in
-    let args = at-loop .before .args in
+    let at-loop = c .before .before in
+    let s = at-loop .before in
+    let args = s .args in
     let i = at-loop .loop .i in
-    let whole : length (args .t1) ≡ 28 = search needs in
-    let row : List ℕ = take 14 (drop (args .start) (args .t1)) in
-    let long : length row ≡ 14 = length-part (args .start) 14 (args .t1) (omega arith) in
-    let read : getD row i 0 ≡ getD (args .t1) (args .start + i) 0 = getD-part (args .start) 14 (args .t1) (omega arith) i (omega arith) in
+    let whole = s .pre in
+    let row : List ℕ = take 14 (drop (args .start) (args .list .now)) in
+    let long : length row ≡ 14 = length-part (args .start) 14 (args .list .now) (omega arith) in
+    let read : getD row i 0 ≡ getD (args .list .now) (args .start + i) 0 = getD-part (args .start) 14 (args .list .now) (omega arith) i (omega arith) in
     (omega arith, rw (at-loop .loop .inv .1, ← read) (grown-more row (replicate 14 0) i 0 (omega arith) (omega arith)))
 
 returns : tie.Need-returns Inv-loop μ-loop
 returns c =
     let at-loop = c .before in
-    let args = at-loop .before .args in
-    let whole : length (args .t1) ≡ 28 = search needs in
-    at-loop .loop .inv .1 ∙ grown-all (take 14 (drop (args .start) (args .t1))) (replicate 14 0) (at-loop .loop .i) (length-part (args .start) 14 (args .t1) (omega arith)) (omega arith)
+    let s = at-loop .before in
+    let args = s .args in
+    let whole = s .pre in
+    at-loop .loop .inv .1 ∙ grown-all (take 14 (drop (args .start) (args .list .now))) (replicate 14 0) (at-loop .loop .i) (length-part (args .start) 14 (args .list .now) (omega arith)) (omega arith)
 
 pub take-row-spec : {M : Type 1} → statement M
 take-row-spec =
@@ -67,7 +68,7 @@ take-row-spec =
     loop-holds
     add-out
     mul-out
-    array-read-out
+    shared-slice-read-out
     mul-out-2
     array-write-out
     add-i
