@@ -1,22 +1,12 @@
 // Audits a log on standard input, in parts and in constant memory, and prints the verdict.
-ghost use Prim.Native.Nat.{_+_, _≤_};
+ghost use Prim.Native.Nat.{_≤_};
 ghost use lib.ListN.{length};
 use cause::number_cause;
+use container::move_front;
 use ledger::LogReader;
 use ledger::LogVerdict;
 use ledger::Outcome;
 use libc::STDOUT_FILENO;
-
-// Moves n bytes from `from` on to the front.
-fn move_front(buf: &mut [u8], from: usize, n: usize)
-    requires { ⌜ from + n ≤ length (now buf) ⌝ }
-{
-    let mut i = 0;
-    while i < n {
-        buf[i] = buf[from + i];
-        i += 1;
-    }
-}
 
 // Keeps the window's bytes from `from` up to `have`, and puts behind them what one read gives; answers how many there are then.
 fn read_more(buf: &mut [u8], from: usize, have: usize) -> usize
@@ -29,7 +19,7 @@ fn read_more(buf: &mut [u8], from: usize, have: usize) -> usize
     keep + io::count(got, &buf[keep..])
 }
 
-// The verdict on standard input: what one read gives is judged before the next, and a read that gives nothing ends the log. The turns
+// The verdict on standard input: what one read gives is judged before the next, a read that gives nothing ends the log, and the turns
 // count down from a number that no log uses up.
 fn audit_input(buf: &mut [u8]) -> LogVerdict {
     let mut reader = LogReader::fresh();

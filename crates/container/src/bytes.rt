@@ -1,8 +1,8 @@
-// A byte of a part, and the test that all bytes of a part are zero.
+// A byte of a part, the test that all bytes of a part are zero, and bytes moved to the front.
 ghost use mathlib.Core.Path.{_≡_};
 ghost use Prim.Native.Nat.{_≤_};
 ghost use lib.ListN.{getD, length};
-ghost use Rattle.lists.specs.Parts.{zeros, sum};
+ghost use Rattle.lists.specs.Parts.{part, put, zeros, sum};
 
 // The byte at i, 0 behind the end.
 pub fn byte_at(part: &[u8], i: usize) -> u8
@@ -14,6 +14,7 @@ pub fn byte_at(part: &[u8], i: usize) -> u8
     0
 }
 
+// A byte in 16 bits.
 fn widen(byte: u8) -> u16
     ensures { λ r. ⌜ (r ≡ byte) × (r ≤ 255) ⌝ }
 {
@@ -47,4 +48,18 @@ pub fn is_zero(part: &[u8]) -> bool
         i = end;
     }
     sum_bytes(&part[i..]) == 0
+}
+
+// Moves the n bytes from `from` on to the front, or as many of them as there are; the bytes behind them stay.
+pub fn move_front(bytes: &mut [u8], from: usize, n: usize)
+    ensures { λ _. ⌜ now (bytes .exit) ≡ put 0 (part from n (now (bytes .entry))) (now (bytes .entry)) ⌝ }
+{
+    let mut i = 0;
+    while i < n {
+        if bytes.len() - i <= from {
+            return;
+        }
+        bytes[i] = bytes[from + i];
+        i += 1;
+    }
 }

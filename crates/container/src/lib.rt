@@ -5,6 +5,7 @@ mod layout;
 
 pub use bytes::byte_at;
 pub use bytes::is_zero;
+pub use bytes::move_front;
 pub use grant::Grant;
 pub use grant::allows_plane;
 pub use grant::decode_grant;

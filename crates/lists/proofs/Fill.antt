@@ -1,14 +1,14 @@
 -- A list d of which the first i elements have become those of a list t: what a loop that stores one element of t a turn has made of d.
 -- Assumes nothing.
-use mathlib.Core.Path.{_≡_, refl, ap}
+use mathlib.Core.Path.{_≡_, refl, ap, _∙_}
 use mathlib.Core.List.{List, [], _∷_, _++_}
 use Prim.Native.Nat.{ℕ, zero, suc, _+_, _-_, _<_, _≤_}
-use native.Mathlib.Nat.{not-suc-le-zero, le-of-suc-le-suc}
+use native.Mathlib.Nat.{not-suc-le-zero, le-of-suc-le-suc, zero-add}
 use native.Mathlib.Numerals.{add-one}
 use native.Mathlib.Omega.{arith}
-use lib.ListN.{length, set, take, drop, getD, replicate}
-use lib.Seq.{take-append-seam}
-use Rattle.lists.specs.Parts.{pad}
+use lib.ListN.{length, set, take, drop, getD, replicate, length-set}
+use lib.Seq.{take-append-seam, take-all}
+use Rattle.lists.specs.Parts.{put, pad}
 
 module _ {A : Type 0} where
   abbrev pub grown : List A → List A → ℕ → List A
@@ -23,14 +23,6 @@ module _ {A : Type 0} where
   -- one more store, at the code's i + 1
   pub grown-more : (t d : List A) (i : ℕ) (z : A) → i < length t → i < length d → set (grown t d i) i (getD t i z) ≡ grown t d (i + 1)
   grown-more t d i z p q = rw (add-one i) (grown-suc t d i z p q)
-
-  pub length-grown : (t d : List A) (i : ℕ) → length t ≡ length d → length (grown t d i) ≡ length d
-  length-grown [] [] zero e = refl
-  length-grown [] [] (suc i) e = refl
-  length-grown [] (b ∷ d) i e = absurd (omega arith)
-  length-grown (a ∷ t) [] i e = absurd (omega arith)
-  length-grown (a ∷ t) (b ∷ d) zero e = refl
-  length-grown (a ∷ t) (b ∷ d) (suc i) e = ap suc (length-grown t d i (omega arith))
 
   -- all of them
   pub grown-all : (t d : List A) (i : ℕ) → length t ≡ length d → length d ≤ i → grown t d i ≡ t
@@ -49,3 +41,26 @@ drop-zeros (suc k) (suc n) = let e : suc n - suc k ≡ n - k = omega arith in rw
 -- zeros whose front has become x are x with zeros behind
 pub grown-pad : (n : ℕ) (x : List ℕ) → grown (pad n x) (replicate n 0) (length x) ≡ pad n x
 grown-pad n x = rw (take-append-seam x (replicate (n - length x) 0), drop-zeros (length x) n)
+
+-- d is d₀ with the first i bytes of t at its front
+pub record Copied (t d₀ d : List ℕ) (i : ℕ) : Type 0 where
+  pub within : i ≤ length t
+  pub is : d ≡ grown t d₀ i
+  pub long : length d ≡ length d₀
+
+pub copied-none : (t d : List ℕ) → Copied t d d 0
+copied-none t d = record { within = omega arith; is = refl; long = refl }
+
+module _ (t d₀ d : List ℕ) (i : ℕ) (h : Copied t d₀ d i) where
+  pub copied-more : length t ≤ length d₀ → i < length t → (b : ℕ) → b ≡ getD t i 0 → Copied t d₀ (set d i b) (i + 1)
+  copied-more room l b e =
+      record {
+        within = omega arith;
+        is = rw (h .is, e) (grown-more t d₀ i 0 l (omega arith));
+        long = length-set d i b ∙ h .long;
+      }
+
+  pub copied-all : length t ≤ i → d ≡ put 0 t d₀
+  copied-all l =
+      let n : i ≡ length t = omega arith in
+      h .is ∙ rw (zero-add (length t), n, take-all (length t) t (omega arith))

@@ -1,13 +1,14 @@
 // Reads a format and containers from standard input through a window, and prints each finished message as a line of hex and then
 // the verdict.
 ghost use mathlib.Core.Path.{_≡_};
-ghost use Prim.Native.Nat.{_+_, _≤_, _<_};
+ghost use Prim.Native.Nat.{_≤_, _<_};
 ghost use lib.ListN.{length};
 ghost use Rattle.io.specs.Digits.{glyph};
 ghost use Rattle.reader.specs.Reading.{reading};
 use cause::Cause;
 use cause::Verdict;
 use cause::number_cause;
+use container::move_front;
 use libc::STDOUT_FILENO;
 use reader::Answer;
 use reader::Reader;
@@ -87,17 +88,6 @@ fn read_container(reader: Reader, container: &[u8]) -> Step
         print_messages(&room[0..length]);
     }
     step
-}
-
-// Moves n bytes from `from` on to the front.
-fn move_front(buf: &mut [u8], from: usize, n: usize)
-    requires { ⌜ from + n ≤ length (now buf) ⌝ }
-{
-    let mut i = 0;
-    while i < n {
-        buf[i] = buf[from + i];
-        i += 1;
-    }
 }
 
 // A window with at least 256 unused bytes, or with all that the input still has.

@@ -4,7 +4,7 @@ use mathlib.Core.Path.{_≡_, refl, _∙_}
 use native.Mathlib.Omega.{arith}
 use borrow.Author.Needs.{needs}
 use lib.ListN.{length}
-use Rattle.writer.proofs.FillLaws.{Copied, copied-none, copied-more, copied-all}
+use Rattle.lists.proofs.Fill.{Copied, copied-none, copied-more, copied-all}
 use Rattle.probe.proofs.FillLaws.{put-whole}
 use Rattle.probe.proofs.store_tail.Statement.{statement}
 use Rattle.probe.proofs.store_tail.Tie as tie

@@ -2,7 +2,8 @@
 use Prim.Native.Nat.{_-_}
 use lib.ListN.{length, replicate}
 use borrow.Author.Needs.{needs}
-use Rattle.writer.proofs.FillLaws.{Copied, copied-none, cleared-more, cleared-all}
+use Rattle.lists.proofs.Fill.{Copied, copied-none}
+use Rattle.writer.proofs.FillLaws.{cleared-more, cleared-all}
 use Rattle.writer.proofs.fill.clear_container.Statement.{statement}
 use Rattle.writer.proofs.fill.clear_container.Tie as tie
 

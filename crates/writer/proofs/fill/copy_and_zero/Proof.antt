@@ -4,7 +4,7 @@ use mathlib.Core.Path.{sym, _∙_}
 use native.Mathlib.Omega.{arith}
 use Rattle.lists.specs.Parts.{pad}
 use Rattle.lists.proofs.PartLaws.{length-pad, getD-pad}
-use Rattle.writer.proofs.FillLaws.{Copied, copied-none, copied-more, copied-all}
+use Rattle.lists.proofs.Fill.{Copied, copied-none, copied-more, copied-all}
 use Rattle.writer.proofs.fill.copy_and_zero.Statement.{statement}
 use Rattle.writer.proofs.fill.copy_and_zero.Tie as tie
 
