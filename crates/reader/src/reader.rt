@@ -145,6 +145,19 @@ impl Reader {
         }
     }
 
+    // A refused judging.
+    fn refuse_judging(self, cause: Cause, place: u64) -> Judged
+        ensures { λ r. ⌜ r ≡ record { reader = self; judgement = Judgement.Refused cause place } ⌝ }
+    {
+        Judged {
+            reader: self,
+            judgement: Judgement::Refused {
+                cause: cause,
+                place: place,
+            },
+        }
+    }
+
     // A container of 256 bytes, from a valid state.
     fn judge_valid(self, container: &[u8]) -> Judged
         requires { ⌜ (readerOk self ≡ true) × (length (now container) ≡ 256) ⌝ }
@@ -158,13 +171,7 @@ impl Reader {
         let scan = judge_container(format, starts, grant, container, &carry[0..len]);
         let verdict = scan.verdict;
         if let Verdict::Faulty(cause, place) = verdict {
-            return Judged {
-                reader: self,
-                judgement: Judgement::Refused {
-                    cause: cause,
-                    place: place,
-                },
-            };
+            return self.refuse_judging(cause, place);
         }
         let track = scan.track;
         Judged {
@@ -182,13 +189,7 @@ impl Reader {
     {
         let entry = self.check_entry(container.len());
         if let Verdict::Faulty(cause, place) = entry {
-            return Judged {
-                reader: self,
-                judgement: Judgement::Refused {
-                    cause: cause,
-                    place: place,
-                },
-            };
+            return self.refuse_judging(cause, place);
         }
         self.judge_valid(container)
     }

@@ -11,10 +11,14 @@ check-entry-requires c κs = search needs
 enum-known-entry : tie.Need-enum-known-entry
 enum-known-entry c = search needs
 
+refuse-judging-requires : tie.Need-refuse-judging-requires
+refuse-judging-requires c κs = search needs
+
 returns : tie.Need-returns
 returns c =
-    let start = c .before .before .before .before .before in
-    judge-entry-faulty (start .args .self) (start .args .container .now) _ _ (sym (c .before .before .before .check-entry .ensures) ∙ c .before .entry .given .1)
+    let start = c .before .before .before .before .before .before in
+    c .refuse-judging .ensures
+    ∙ judge-entry-faulty (start .args .self) (start .args .container .now) _ _ (sym (c .before .before .before .before .check-entry .ensures) ∙ c .before .before .entry .given .1)
 
 enum-told : tie.Need-enum-told
 enum-told c = search needs
@@ -33,6 +37,7 @@ judge-spec =
     (tie.spec
     check-entry-requires
     enum-known-entry
+    refuse-judging-requires
     returns
     enum-told
     judge-valid-requires

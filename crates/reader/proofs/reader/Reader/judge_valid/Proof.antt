@@ -36,12 +36,16 @@ judge-container-requires c κs =
 enum-known-verdict : tie.Need-enum-known-verdict
 enum-known-verdict c = search needs
 
+refuse-judging-requires : tie.Need-refuse-judging-requires
+refuse-judging-requires c κs = search needs
+
 returns : tie.Need-returns
 returns c =
-    let start = c .before .before .before .before .before .before .before .before .before .before in
+    let start = c .before .before .before .before .before .before .before .before .before .before .before in
     let s = start .args .self in
-    let at-scan = c .before .before .before in
-    judge-faulty s (start .args .container .now) (start .pre .0) (start .pre .1) _ _ (sym (looked-verdict s (start .args .container .now) (at-scan .judge-container .result) (at-scan .judge-container .ensures)) ∙ c .before .verdict .given .1)
+    let at-scan = c .before .before .before .before in
+    c .refuse-judging .ensures
+    ∙ judge-faulty s (start .args .container .now) (start .pre .0) (start .pre .1) _ _ (sym (looked-verdict s (start .args .container .now) (at-scan .judge-container .result) (at-scan .judge-container .ensures)) ∙ c .before .before .verdict .given .1)
 
 enum-told : tie.Need-enum-told
 enum-told c = search needs
@@ -78,6 +82,7 @@ judge-valid-spec =
     part-judge-container-end
     judge-container-requires
     enum-known-verdict
+    refuse-judging-requires
     returns
     enum-told
     carry-on-requires
