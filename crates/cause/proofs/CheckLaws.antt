@@ -1,12 +1,12 @@
 -- No fault is found exactly where every check passes. Assumes nothing.
 use Prim.Native.Nat.{ℕ}
 use mathlib.Core.Path.{_≡_, refl}
-use mathlib.Core.Bool.{Bool, true, false}
+use mathlib.Core.Bool.{true, false}
 use mathlib.Core.List.{List, [], _∷_, _++_}
 use mathlib.Core.Logic.{⊎-elim, _↔_}
 use native.Mathlib.Omega.{arith}
 use Rattle.lists.proofs.Tests.{cases}
-use Rattle.cause.specs.Checks.{Check, check, firstFault, Pass, orElse}
+use Rattle.cause.specs.Checks.{Check, firstFault, Pass, orElse}
 use Rattle.cause.specs.declared.Verdict.{Verdict}
 use Rattle.cause.specs.declared.Verdict.the-variants.{Sound, Faulty}
 
@@ -33,6 +33,11 @@ pub first-append : (a b : List Check) → firstFault (a ++ b) ≡ orElse (firstF
 first-append [] b = refl
 first-append (k ∷ l) b =
     ⊎-elim (λ (t : k .passes ≡ true). rw t (first-append l b)) (λ (t : k .passes ≡ false). rw t) (cases (k .passes))
+
+-- both verdicts are sound where the second behind the first is
+pub both-sound : (a b : Verdict) → orElse a b ≡ Sound → (a ≡ Sound) × (b ≡ Sound)
+both-sound Sound b e = (refl, e)
+both-sound (Faulty c p) b e = let z : _≡_ {A = ℕ} 0 1 = cc in absurd (omega arith)
 
 -- two lists of checks pass where both do
 pub pass-append : (a b : List Check) → Pass a → Pass b → Pass (a ++ b)

@@ -22,15 +22,11 @@ use Rattle.history.specs.History.{Entry, Tapped}
 use Rattle.history.specs.Calls.{Call, Auditor, note, after, accepted, Admits}
 use Rattle.demands.specs.Tap.{linkOf, accepting, auditorOf}
 use Rattle.demands.specs.LogTap.{tapOf, linkAt, LogTapped, behind, Begins, last, before, RefusedLog, LogNotTapped, LogDemand}
-use Rattle.demands.specs.Demand3.{Demand3}
 use Rattle.ledger.specs.Stream.{most}
 use Rattle.ledger.proofs.AcceptedTheorem.{accepted-only}
+use Rattle.history.proofs.Calls.{direction-is}
 use Rattle.demands.proofs.Books.{demand3}
 use Rattle.demands.proofs.LogRefused.{refused-only}
-
-direction-number : (d : Direction) → directionOf (numberOf d) ≡ some d
-direction-number direction0 = refl
-direction-number direction1 = refl
 
 of-number : (n : ℕ) → n < 2 → (d : Direction) × (numberOf d ≡ n)
 of-number zero h = (direction0, refl)
@@ -55,7 +51,7 @@ module _ (f : ℕ) (a b : Receiver) (v : configured f a b ≡ true) where
     where
       by : Admits (Tapped K) (accepted U xs) x → Tapped K (note (accepted U xs) (directionOf (x .number)) (x .container))
       by h =
-          let q : directionOf (x .number) ≡ some (h .0) = ap directionOf (sym (h .1)) ∙ direction-number (h .0) in
+          let q : directionOf (x .number) ≡ some (h .0) = direction-is (x .number) (h .0) (h .1) in
           subst (λ (o : Option Direction). Tapped K (note (accepted U xs) o (x .container))) (sym q) (h .2)
 
   all-more : (xs : Trace (Call (List ℕ))) (es : List log.Entry) → AllAccepted (after U xs) es → Tapped K (accepted U xs) → Tapped K (tapOf (accepted U xs) es)
@@ -82,7 +78,7 @@ module _ (f : ℕ) (a b : Receiver) (v : configured f a b ≡ true) where
       → Tapped K (note (accepted U ys) (directionOf (x .number)) (x .container)) → ⊥
   none-more ys x h k p e t =
       let d = of-number (x .number) h in
-      let q : directionOf (x .number) ≡ some (d .0) = ap directionOf (sym (d .1)) ∙ direction-number (d .0) in
+      let q : directionOf (x .number) ≡ some (d .0) = direction-is (x .number) (d .0) (d .1) in
       let w : Tapped K (accepted U ys ▷ record { direction = d .0; container = x .container }) = subst (λ (o : Option Direction). Tapped K (note (accepted U ys) o (x .container))) q t in
       let y : U .audit (after U ys) x .accepts ≡ true = demand3 .books-close f a b v (ys ▷ x) .accepts-exactly ys x (whole refl) .1 (d .0, d .1, w) in
       never-both (ap accepting e) y

@@ -1,13 +1,8 @@
 -- Demand 2 holds. Assumes nothing.
 use Prim.Native.Nat.{ℕ}
-use mathlib.Core.Path.{_≡_, refl, sym, ap, _∙_}
-use mathlib.Core.List.{List, []}
-use native.Mathlib.Omega.{arith}
+use mathlib.Core.Path.{_≡_, refl, sym, ap}
+use mathlib.Core.List.{List}
 use lib.ListN.{length}
-use Rattle.cause.specs.Checks.{whenSound}
-use Rattle.cause.specs.declared.Cause.{Cause}
-use Rattle.cause.specs.declared.Verdict.{Verdict}
-use Rattle.cause.specs.declared.Verdict.the-variants.{Sound, Faulty}
 use Rattle.container.specs.Layout.{formatOf}
 use Rattle.container.specs.declared.grant.Grant.{Grant}
 use Rattle.record.specs.Records.{recordsOf}
@@ -18,33 +13,28 @@ use Rattle.reader.proofs.ProgressLaws.{endings-of}
 use Rattle.reader.proofs.ReadLaws.{read-exactly}
 use Rattle.writer.specs.Plan.{plan, cursorOf}
 use Rattle.writer.specs.Laying.{filled, owesAfter, usedOf}
-use Rattle.writer.specs.OneWay.{Way}
-use Rattle.writer.specs.Filling.{tailOf, writerWith, fillFault, answerOf, filling, fillBytes}
+use Rattle.writer.specs.Filling.{tailOf, fillFault, filling, fillBytes}
 use Rattle.writer.specs.declared.writer.Writer.{Writer}
-use Rattle.writer.specs.declared.writer.Answer.the-variants.{Filled, Refused}
+use Rattle.writer.specs.declared.writer.Answer.the-variants.{Filled}
+use Rattle.writer.proofs.AnswerLaws.{filling-sound}
 use Rattle.writer.proofs.Bound.{within-n, within-2n}
 use Rattle.writer.proofs.LegalLaws.{plan-legal}
 use Rattle.writer.proofs.OneWayLaws.{one-way-exactly}
 use Rattle.writer.proofs.Return.{return-of-messages, list-returned}
-use Rattle.demands.specs.Demand2.{Demand2, Laid, ReadBack}
+use Rattle.demands.specs.Demand2.{Demand2, Laid}
 
 -- the records of a container are those of the messages that end in it, by their last granules
 in-order : (s : Reader) (c : List ℕ) → records s c ≡ recordsOf (endedTo (formatOf (s .format)) c (carried s) 12)
 unfolding records
 in-order s c = ap recordsOf (endings-of (formatOf (s .format)) c (carried s))
 
--- an accepted fill is that of a sound verdict
-filled-sound : (v : Verdict) (n u : ℕ) → answerOf v n ≡ Filled u → (v ≡ Sound) × (u ≡ n)
-filled-sound Sound n u e = (refl, cc)
-filled-sound (Faulty k p) n u e = let z : _≡_ {A = ℕ} 0 1 = cc in absurd (omega arith)
-
 one-way : (w : Writer) (l : List ℕ) (n : Grant) (c : List ℕ) (u : ℕ) → filling w l n (length c) .answer ≡ Filled u → Laid w l n c u
 unfolding filling fillBytes filled
 one-way w l n c u e =
     let fm = formatOf (w .format) in
     let t = tailOf w in
-    let r = filled-sound (fillFault w l n (length c)) (usedOf fm n t l) u e in
-    let k = one-way-exactly fm n l t (plan fm n l 12 0 (cursorOf t)) u (owesAfter fm n t l) .1 (refl, r .1, refl) in
+    let r = filling-sound (fillFault w l n (length c)) (usedOf fm n t l) u e in
+    let k = one-way-exactly fm n l t (plan fm n l 12 0 (cursorOf t)) u (owesAfter fm n t l) .1 (refl, sym (r .1), refl) in
     record {
       cells = plan fm n l 12 0 (cursorOf t);
       owes = owesAfter fm n t l;

@@ -6,9 +6,9 @@ use mathlib.Core.Logic.{⊎-elim}
 use native.Mathlib.Omega.{arith}
 use native.Mathlib.Nat.{zero-add}
 use borrow.Rule.Slice.PartMut.{putMid}
-use lib.ListN.{getD, length, take, drop, set, replicate, length-append, length-take, length-drop, length-replicate, length-set, List·getD-append, List·getD-eq-default, drop-of-length-le}
+use lib.ListN.{getD, length, take, drop, set, replicate, length-append, length-drop, length-replicate, length-set, List·getD-append, List·getD-eq-default, drop-of-length-le}
 use lib.Seq.{take-all, take-at, drop-at, length-take-le, drop-drop, getD-take, getD-drop, ext-getD, getD-append-add, getD-set-other, take-append-le, drop-append-le}
-use Rattle.lists.specs.Parts.{part, put, pad}
+use Rattle.lists.specs.Parts.{part, put, pad, IsBytes}
 use Rattle.lists.proofs.Order.{lt-or-le}
 
 pub append-nil : (l : List ℕ) → l ++ [] ≡ l
@@ -26,10 +26,9 @@ rest-is s at = take-all (length s - at) (drop at s) (omega (arith, length-drop a
 pub length-rest : {A : Type 0} (s : List A) (at : ℕ) → length (take (length s - at) (drop at s)) ≡ length s - at
 length-rest s at = rw (rest-is s at) (length-drop at s)
 
--- a list that is not empty, as its first byte and what `&s[1..]` has
-pub behind-first : (l : List ℕ) → (length l ≡ 0 → ⊥) → l ≡ getD l 0 0 ∷ drop 1 l
-behind-first [] d = absurd (d refl)
-behind-first (b ∷ l) d = refl
+-- what stands behind an offset of a list of bytes is bytes
+pub bytes-drop : (l : List ℕ) (at : ℕ) → IsBytes l → IsBytes (drop at l)
+bytes-drop l at h i = rw (getD-drop at l i 0) (h (at + i))
 
 module _ (s n : ℕ) (c : List ℕ) (h : s + n ≤ length c) where
   pub length-part : length (part s n c) ≡ n
@@ -79,9 +78,6 @@ module _ (s : ℕ) (x c : List ℕ) (h : s + length x ≤ length c) where
 
   pub part-put-below : (t n : ℕ) → t + n ≤ s → part t n (put s x c) ≡ part t n c
   part-put-below t n k = part-same t n (put s x c) c (rw length-put (omega arith)) length-put (λ i a b. getD-put-low i (omega arith))
-
-  pub part-put-above : (t n : ℕ) → s + length x ≤ t → t + n ≤ length c → part t n (put s x c) ≡ part t n c
-  part-put-above t n k l = part-same t n (put s x c) c (rw length-put l) length-put (λ i a b. getD-put-high i (omega arith))
 
 pub part-set : (t n p v : ℕ) (c : List ℕ) → t + n ≤ length c → ((i : ℕ) → t ≤ i → i < t + n → i ≡ p → ⊥) → part t n (set c p v) ≡ part t n c
 part-set t n p v c h d = part-same t n (set c p v) c (rw (length-set c p v) h) (length-set c p v) (λ i a b. getD-set-other c p i v 0 (d i a b))

@@ -1,7 +1,7 @@
 -- What a head says depends on the first bytes of a message alone, and which sizes there are. Assumes nothing.
 use Prim.Native.Nat.{ℕ, _+_, _%_, _≤_, _<_}
-use mathlib.Core.Path.{_≡_}
-use mathlib.Core.Bool.{Bool, true, false, _&&_, _||_, not}
+use mathlib.Core.Path.{_≡_, subst}
+use mathlib.Core.Bool.{Bool, true, false, _&&_, _||_}
 use mathlib.Core.List.{List, _++_}
 use mathlib.Core.Logic.{_⊎_, inl, inr, ⊎-elim}
 use native.Mathlib.Omega.{arith}
@@ -69,14 +69,11 @@ is-message m t =
       headed = and-right (known m) (wellHeaded m) r;
     }
 
+pub message-size : (m : List ℕ) → Message m → Size (length m)
+message-size m h = subst Size (h .sized) (size-of (typeOf m) (opOf m) (ltb-true 0 (msgSize m) (h .is-known)))
+
 -- the head of a message with z behind it
 module _ (m z : List ℕ) where
-  pub type-append : 0 < length m → typeOf (m ++ z) ≡ typeOf m
-  type-append h = rw List·getD-append
-
-  pub op-append : 1 < length m → opOf (m ++ z) ≡ opOf m
-  op-append h = rw List·getD-append
-
   pub size-append : 1 < length m → msgSize (m ++ z) ≡ msgSize m
   size-append h = let p : 0 < length m = omega arith in rw (List·getD-append m z 0 0 p, List·getD-append m z 0 1 h)
 

@@ -1,16 +1,14 @@
 -- Answers by verdicts: what a refusal and an acceptance say of the checks, and what the checks say of them. Assumes nothing.
 use Prim.Native.Nat.{ℕ, _≤_, _<_}
 use mathlib.Core.Path.{_≡_, refl, sym, ap, _∙_}
-use mathlib.Core.Bool.{Bool, true, false}
-use mathlib.Core.List.{List, [], _∷_, _++_}
-use mathlib.Core.Logic.{⊎-elim}
+use mathlib.Core.Bool.{true, false}
+use mathlib.Core.List.{List, _∷_}
 use native.Mathlib.Omega.{arith}
 use lib.ListN.{length}
 use lib.Dec.{eqb, leb}
 use borrow.Author.Tests.{le-leb, lt-leb, eq-eqb, eqb-true}
 use Rattle.lists.specs.Parts.{put}
-use Rattle.lists.proofs.Tests.{cases, never-both}
-use Rattle.cause.specs.Checks.{check, firstFault, whenSound, orElse, Pass}
+use Rattle.cause.specs.Checks.{check, firstFault, whenSound, orElse}
 use Rattle.cause.specs.declared.Cause.{Cause}
 use Rattle.cause.specs.declared.Cause.the-variants.{ContainerLength, RoomTooSmall, InvalidState}
 use Rattle.cause.specs.declared.Verdict.{Verdict}
@@ -21,22 +19,24 @@ use Rattle.container.specs.Grants.{headerGrant}
 use Rattle.container.specs.declared.grant.Grant.{Grant}
 use Rattle.reader.specs.Reading.{readerOk, entryChecks, stateChecks, judgeChecks, readChecks, nextReader, records, answerOf, reading, readRoom, judgementOf, judging}
 use Rattle.reader.specs.declared.reader.Reader.{Reader}
-use Rattle.reader.specs.declared.reader.Answer.{Answer}
 use Rattle.reader.specs.declared.reader.Answer.the-variants as answer
 use Rattle.reader.specs.declared.reader.Step.{Step}
-use Rattle.reader.specs.declared.reader.Judgement.{Judgement}
 use Rattle.reader.specs.declared.reader.Judgement.the-variants as judgement
 use Rattle.reader.specs.declared.reader.Judged.{Judged}
 
--- ---- from a judgement to its verdict
+-- ---- from an answer to its verdict
 
-pub refused-faulty : (v : Verdict) (g : Grant) (w : ℕ) (k : Cause) (p : ℕ) → judgementOf v g w ≡ judgement.Refused k p → v ≡ Faulty k p
-refused-faulty Sound g w k p e = let z : _≡_ {A = ℕ} 0 1 = cc in absurd (omega arith)
-refused-faulty (Faulty a b) g w k p e = cc
+pub reading-faulty : (v : Verdict) (n : ℕ) (g : Grant) (k : Cause) (p : ℕ) → answerOf v n g ≡ answer.Refused k p → v ≡ Faulty k p
+reading-faulty Sound n g k p e = let z : _≡_ {A = ℕ} 0 1 = cc in absurd (omega arith)
+reading-faulty (Faulty a b) n g k p e = cc
 
-pub accepted-sound : (v : Verdict) (g : Grant) (w : ℕ) (h : Grant) (x : ℕ) → judgementOf v g w ≡ judgement.Accepted h x → (v ≡ Sound) × (h ≡ g) × (x ≡ w)
-accepted-sound Sound g w h x e = (refl, cc, cc)
-accepted-sound (Faulty a b) g w h x e = let z : _≡_ {A = ℕ} 0 1 = cc in absurd (omega arith)
+pub judging-faulty : (v : Verdict) (g : Grant) (w : ℕ) (k : Cause) (p : ℕ) → judgementOf v g w ≡ judgement.Refused k p → v ≡ Faulty k p
+judging-faulty Sound g w k p e = let z : _≡_ {A = ℕ} 0 1 = cc in absurd (omega arith)
+judging-faulty (Faulty a b) g w k p e = cc
+
+pub judging-sound : (v : Verdict) (g : Grant) (w : ℕ) (h : Grant) (x : ℕ) → judgementOf v g w ≡ judgement.Accepted h x → (v ≡ Sound) × (h ≡ g) × (x ≡ w)
+judging-sound Sound g w h x e = (refl, cc, cc)
+judging-sound (Faulty a b) g w h x e = let z : _≡_ {A = ℕ} 0 1 = cc in absurd (omega arith)
 
 -- ---- the entry
 
@@ -128,11 +128,11 @@ module _ (s : Reader) (c : List ℕ) (r : Judged) (e : r ≡ judging s c) where
   pub judged-refused : (k : Cause) (p : ℕ) → r .judgement ≡ judgement.Refused k p → firstFault (judgeChecks s c) ≡ Faulty k p
   unfolding judging
   judged-refused k p q =
-      refused-faulty (firstFault (judgeChecks s c)) (headerGrant (formatOf (s .format)) c) (msgStart (formatOf (s .format)) c) k p (sym (ap (λ (x : Judged). x .judgement) e) ∙ q)
+      judging-faulty (firstFault (judgeChecks s c)) (headerGrant (formatOf (s .format)) c) (msgStart (formatOf (s .format)) c) k p (sym (ap (λ (x : Judged). x .judgement) e) ∙ q)
 
   pub judged-accepted : (g : Grant) (w : ℕ) → r .judgement ≡ judgement.Accepted g w
       → (firstFault (judgeChecks s c) ≡ Sound) × (g ≡ headerGrant (formatOf (s .format)) c) × (w ≡ msgStart (formatOf (s .format)) c) × (r .reader ≡ nextReader s c)
   unfolding judging
   judged-accepted g w q =
-      let a = accepted-sound (firstFault (judgeChecks s c)) (headerGrant (formatOf (s .format)) c) (msgStart (formatOf (s .format)) c) g w (sym (ap (λ (x : Judged). x .judgement) e) ∙ q) in
+      let a = judging-sound (firstFault (judgeChecks s c)) (headerGrant (formatOf (s .format)) c) (msgStart (formatOf (s .format)) c) g w (sym (ap (λ (x : Judged). x .judgement) e) ∙ q) in
       (a .0, a .1, a .2, ap (λ (x : Judged). x .reader) e ∙ ap (λ (v : Verdict). whenSound v (nextReader s c) s) (a .0))

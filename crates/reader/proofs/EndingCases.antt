@@ -1,26 +1,18 @@
 -- The message whose last granule is g, as the code finds it, case by case. Assumes nothing.
 use Prim.Native.Nat.{ℕ, _+_, _-_, _≤_, _<_}
-use mathlib.Core.Path.{_≡_, refl, sym, ap, _∙_}
+use mathlib.Core.Path.{_≡_, sym, ap, _∙_}
 use mathlib.Core.Bool.{Bool, true, false, _&&_, not}
 use mathlib.Core.List.{List, [], _∷_}
 use native.Mathlib.Omega.{arith}
 use lib.ListN.{length, take, drop, length-take}
 use lib.Seq.{take-take}
 use lib.Dec.{ltb}
-use borrow.Author.Tests.{lt-ltb, le-ltb, le-leb, lt-leb, eq-eqb, ne-eqb}
+use borrow.Author.Tests.{lt-ltb, le-ltb, le-leb, lt-leb, eq-eqb, ne-eqb, not-true, not-false}
 use Rattle.lists.proofs.Tests.{and-false}
 use Rattle.container.specs.Layout.{Format, start, wide, granule, bit}
 use Rattle.message.specs.Heads.{msgSize}
 use Rattle.reader.specs.Tracking.{gatheredMessage, endedBy, Ending}
 use Rattle.reader.specs.declared.track.Track.{Track}
-
-not-false : (b : Bool) → not b ≡ true → b ≡ false
-not-false true e = sym e
-not-false false e = refl
-
-not-true : (b : Bool) → not b ≡ false → b ≡ true
-not-true true e = refl
-not-true false e = sym e
 
 -- granule g of w bytes
 module _ (fm : Format) (c m : List ℕ) (starts : ℕ) (t : Track) (g w : ℕ) (ew : w ≡ fm .size g) where
@@ -47,7 +39,7 @@ module _ (fm : Format) (c m : List ℕ) (starts : ℕ) (t : Track) (g w : ℕ) (
 
   module _ (off : (ltb 0 (t .owed) && wide fm g) ≡ false) (b : Bool) (eb : b ≡ bit starts g) where
     pub ended-none : not b ≡ true → endedBy fm c m starts t g ≡ []
-    ended-none f = rw (off, sym eb ∙ not-false b f)
+    ended-none f = rw (off, sym eb ∙ not-true b f)
 
     -- a message of n bytes starts there, at a
     module _ (s : not b ≡ false) (a : ℕ) (ea : a ≡ start g) (n : ℕ) (en : n ≡ msgSize (take ((a + w) - a) (drop a c))) where
@@ -58,13 +50,13 @@ module _ (fm : Format) (c m : List ℕ) (starts : ℕ) (t : Track) (g w : ℕ) (
       size-here = en ∙ ap msgSize here
 
       pub ended-over : w < n → endedBy fm c m starts t g ≡ []
-      ended-over h = let k : fm .size g < msgSize (granule fm g c) = omega (arith, size-here) in rw (off, sym eb ∙ not-true b s, lt-leb (msgSize (granule fm g c)) (fm .size g) k)
+      ended-over h = let k : fm .size g < msgSize (granule fm g c) = omega (arith, size-here) in rw (off, sym eb ∙ not-false b s, lt-leb (msgSize (granule fm g c)) (fm .size g) k)
 
       pub ended-short : n ≤ w → endedBy fm c m starts t g ≡ take ((a + n) - a) (drop a c) ∷ []
       ended-short h =
           let k : msgSize (granule fm g c) ≤ fm .size g = omega (arith, size-here) in
           let j : (a + n) - a ≡ msgSize (granule fm g c) = omega (arith, size-here) in
-          rw (off, sym eb ∙ not-true b s, le-leb (msgSize (granule fm g c)) (fm .size g) k)
+          rw (off, sym eb ∙ not-false b s, le-leb (msgSize (granule fm g c)) (fm .size g) k)
           (ap (λ (l : List ℕ). l ∷ []) (take-take (msgSize (granule fm g c)) (fm .size g) (drop (start g) c) k ∙ rw (j, ea)))
 
       pub short-small : n ≤ w → fm .size g ≤ 20 → length (take ((a + n) - a) (drop a c)) ≤ 20

@@ -1,7 +1,7 @@
 -- The bytes of a longer message, gathered granule by granule. Assumes nothing.
 use Prim.Native.Nat.{ℕ, zero, suc, _+_, _-_, _≤_, _<_}
 use mathlib.Core.Path.{_≡_, refl, sym, ap, _∙_}
-use mathlib.Core.List.{List, [], _++_}
+use mathlib.Core.List.{List, [], _++_, append-nil}
 use native.Mathlib.Omega.{arith}
 use native.Mathlib.Numerals.{add-one}
 use lib.ListN.{length, take, drop, replicate, length-append, length-take, length-replicate, replicate-append-replicate}
@@ -10,7 +10,7 @@ use lib.Dec.{eqb}
 use borrow.Author.Tests.{eq-eqb, ne-eqb}
 use Rattle.lists.specs.Pick.{pick}
 use Rattle.lists.specs.Parts.{put, pad}
-use Rattle.lists.proofs.PartLaws.{append-nil, length-put}
+use Rattle.lists.proofs.PartLaws.{length-put}
 use Rattle.container.specs.Layout.{Format, formatOf, start, wide, granule}
 use Rattle.container.proofs.Formats.{granule-length}
 use Rattle.reader.specs.Tracking.{gathered}

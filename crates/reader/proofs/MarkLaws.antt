@@ -15,18 +15,12 @@ use Rattle.cause.specs.declared.Cause.{Cause}
 use Rattle.cause.specs.declared.Verdict.{Verdict}
 use Rattle.cause.specs.declared.Verdict.the-variants.{Sound, Faulty}
 use Rattle.cause.proofs.CheckLaws.{first-append}
-use Rattle.message.specs.Heads.{typeOf, resp, resp2, miscU}
+use Rattle.message.specs.Heads.{typeOf}
 use Rattle.message.specs.Places.{responsesBy, responses, miscsBy, miscs}
+use Rattle.message.proofs.PlaceLaws.{responses-most, miscs-most}
 use Rattle.reader.specs.Cells.{Cell}
 use Rattle.reader.specs.Checking.{populated, noGap, starting, sumOf, groupChecks, activations}
 use Rattle.reader.specs.Tracking.{markOf, marksOf, groupBy, markChecks, activationMarks}
-
--- bounds of what a message counts for
-pub responses-most : (t : ℕ) → responsesBy t ≤ 2
-responses-most t = pick-both (λ n. n ≤ 2) (eqb t resp) (omega arith) (pick-both (λ n. n ≤ 2) (eqb t resp2) (omega arith) (omega arith))
-
-pub miscs-most : (t : ℕ) → miscsBy t ≤ 1
-miscs-most t = pick-both (λ n. n ≤ 1) (eqb t miscU) (omega arith) (omega arith)
 
 -- the counts of a mark, as the code has them, stay below an Activation's bit
 pub counts-most : (t : ℕ) {r m : ℕ} → r ≡ responsesBy t → m ≡ miscsBy t → 4 * r + 32 * m ≤ 40

@@ -1,25 +1,22 @@
 -- The place of every refusal of a reading or judging is below 12. Assumes nothing.
 use Prim.Native.Nat.{ℕ, zero, suc, _+_, _≤_, _<_}
-use mathlib.Core.Path.{_≡_, refl, sym, ap, _∙_}
-use mathlib.Core.Bool.{Bool, true, false}
+use mathlib.Core.Path.{_≡_}
+use mathlib.Core.Bool.{true, false}
 use mathlib.Core.List.{List, [], _∷_, _++_}
 use mathlib.Core.Logic.{⊎-elim}
 use native.Mathlib.Omega.{arith}
 use Rattle.lists.proofs.Tests.{cases}
 use Rattle.cause.specs.Checks.{Check, firstFault}
 use Rattle.cause.specs.declared.Cause.{Cause}
-use Rattle.cause.specs.declared.Verdict.{Verdict}
-use Rattle.cause.specs.declared.Verdict.the-variants.{Sound, Faulty}
+use Rattle.cause.specs.declared.Verdict.the-variants.{Faulty}
 use Rattle.container.specs.Layout.{Format, formatOf}
 use Rattle.reader.specs.Cells.{Cell, cells, cellAt, after}
-use Rattle.reader.specs.Checking.{cellChecks, granuleChecks, groupChecks, headerChecks, lastChecks, containerChecks}
-use Rattle.reader.specs.Reading.{carried, entryChecks, stateChecks, readChecks, judgeChecks, reading, judging}
+use Rattle.reader.specs.Checking.{granuleChecks, groupChecks, lastChecks, containerChecks}
+use Rattle.reader.specs.Reading.{carried, stateChecks, readChecks, judgeChecks, reading, judging}
 use Rattle.reader.specs.declared.reader.Reader.{Reader}
-use Rattle.reader.specs.declared.reader.Answer.{Answer}
 use Rattle.reader.specs.declared.reader.Answer.the-variants as answer
 use Rattle.reader.specs.declared.reader.Judgement.the-variants as judgement
-use Rattle.reader.specs.Reading.{answerOf, judgementOf}
-use Rattle.container.specs.declared.grant.Grant.{Grant}
+use Rattle.reader.proofs.AnswerLaws.{reading-faulty, judging-faulty}
 
 -- the place of each check is below n
 abbrev Below : ℕ → List Check → Type 0
@@ -77,17 +74,9 @@ judge-below s c = let z : 0 < 12 = omega arith in (z, (z, state-below s c))
 -- the place of a refused reading
 pub refused-place : (s : Reader) (c : List ℕ) (n : ℕ) (k : Cause) (p : ℕ) → reading s c n .answer ≡ answer.Refused k p → p < 12
 unfolding reading
-refused-place s c n k p e = first-below 12 (readChecks s c n) (read-below s c n) k p (faulty (firstFault (readChecks s c n)) _ _ e)
-  where
-    faulty : (v : Verdict) (l : ℕ) (g : Grant) → answerOf v l g ≡ answer.Refused k p → v ≡ Faulty k p
-    faulty Sound l g q = let z : _≡_ {A = ℕ} 0 1 = cc in absurd (omega arith)
-    faulty (Faulty a b) l g q = cc
+refused-place s c n k p e = first-below 12 (readChecks s c n) (read-below s c n) k p (reading-faulty (firstFault (readChecks s c n)) _ _ k p e)
 
 -- the place of a refused judging
 pub judged-place : (s : Reader) (c : List ℕ) (k : Cause) (p : ℕ) → judging s c .judgement ≡ judgement.Refused k p → p < 12
 unfolding judging
-judged-place s c k p e = first-below 12 (judgeChecks s c) (judge-below s c) k p (faulty (firstFault (judgeChecks s c)) _ _ e)
-  where
-    faulty : (v : Verdict) (g : Grant) (w : ℕ) → judgementOf v g w ≡ judgement.Refused k p → v ≡ Faulty k p
-    faulty Sound g w q = let z : _≡_ {A = ℕ} 0 1 = cc in absurd (omega arith)
-    faulty (Faulty a b) g w q = cc
+judged-place s c k p e = first-below 12 (judgeChecks s c) (judge-below s c) k p (judging-faulty (firstFault (judgeChecks s c)) _ _ k p e)

@@ -1,12 +1,11 @@
 -- Short records, written to a room one behind the other. Assumes nothing.
-use Prim.Native.Nat.{ℕ, suc, _+_, _-_, _≤_, _<_}
-use mathlib.Core.Path.{_≡_, refl, sym, ap, _∙_}
-use mathlib.Core.List.{List, [], _∷_, _++_, append-assoc}
+use Prim.Native.Nat.{ℕ, suc, _+_, _≤_, _<_}
+use mathlib.Core.Path.{_≡_, sym, ap, _∙_}
+use mathlib.Core.List.{List, [], _∷_, _++_, append-nil}
 use native.Mathlib.Omega.{arith}
 use lib.ListN.{length, set}
-use borrow.Author.Tests.{lt-ltb}
 use Rattle.lists.specs.Parts.{put}
-use Rattle.lists.proofs.PartLaws.{append-nil, length-put}
+use Rattle.lists.proofs.PartLaws.{length-put}
 use Rattle.record.specs.Number.{number}
 use Rattle.record.proofs.NumberLaws.{number-small}
 use Rattle.record.specs.Records.{recordOf, recordsOf}

@@ -1,24 +1,24 @@
 -- The numbers that the code keeps follow the message in progress. Assumes nothing.
-use Prim.Native.Nat.{ℕ, zero, suc, _+_, _-_, _*_, _%_, _≤_, _<_}
+use Prim.Native.Nat.{ℕ, zero, suc, _+_, _-_, _%_, _≤_, _<_}
 use mathlib.Core.Path.{_≡_, refl, sym, ap, _∙_, subst}
-use mathlib.Core.Bool.{Bool, true, false, _&&_, _||_}
-use mathlib.Core.List.{List, [], _∷_, _++_, append-assoc}
-use mathlib.Core.Logic.{_⊎_, inl, inr, ⊎-elim}
+use mathlib.Core.Bool.{true, false, _&&_}
+use mathlib.Core.List.{List, [], _++_, append-assoc, append-nil}
+use mathlib.Core.Logic.{⊎-elim}
 use native.Mathlib.Omega.{arith}
 use native.Mathlib.Numerals.{add-one}
 use lib.ListN.{length, take, length-append}
-use lib.Seq.{take-all, take-length}
+use lib.Seq.{take-length}
 use lib.Dec.{eqb, ltb, leb}
-use borrow.Author.Tests.{lt-ltb, le-ltb, ltb-true, ltb-false, le-leb, lt-leb, leb-true, leb-false, eqb-true, eqb-false}
+use borrow.Author.Tests.{lt-ltb, ltb-true, le-leb, lt-leb, leb-true, leb-false, eqb-true, eqb-false}
 use Rattle.lists.specs.Pick.{pick}
-use Rattle.lists.proofs.Tests.{cases, and-left, and-right, never-both}
-use Rattle.lists.proofs.PartLaws.{append-nil, length-zero}
+use Rattle.lists.proofs.Tests.{cases, and-left, and-right}
+use Rattle.lists.proofs.PartLaws.{length-zero}
 use Rattle.container.specs.Layout.{Format, formatOf, wide, granule, msgStart, bit}
 use Rattle.container.proofs.Formats.{granule-length}
 use Rattle.message.specs.Heads.{typeOf, opOf, msgSize, wellHeaded}
 use Rattle.message.proofs.HeadLaws.{size-append, size-of, size-most}
-use Rattle.reader.specs.Cells.{Cell, owed, cellAt, message, whole, after, ended}
-use Rattle.reader.specs.Keeps.{progress, cellOf}
+use Rattle.reader.specs.Cells.{Cell, owed, cellAt, whole, after, ended}
+use Rattle.reader.specs.Keeps.{progress}
 use Rattle.reader.specs.Reading.{carryOk}
 use Rattle.reader.specs.Tracking.{noTrack, trackOf, trackAfter, trackAt, gathered, gatheredMessage, inProgress, endedBy, Ending, Begun}
 use Rattle.reader.specs.declared.track.Track.{Track}

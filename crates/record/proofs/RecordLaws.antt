@@ -3,31 +3,28 @@ use Prim.Native.Nat.{ℕ, zero, suc, _+_, _-_, _≤_, _<_}
 use mathlib.Core.Path.{_≡_, refl, sym, ap, _∙_, subst}
 use mathlib.Core.Bool.{Bool, true, false, _&&_}
 use mathlib.Core.List.{List, [], _∷_, _++_, append-assoc}
-use mathlib.Core.Logic.{_⊎_, inl, inr, ⊎-elim, _↔_}
+use mathlib.Core.Logic.{⊎-elim, _↔_}
 use native.Mathlib.Omega.{arith}
-use native.Mathlib.Nat.{add-zero, zero-add}
-use native.Mathlib.Numerals.{add-one}
-use lib.ListN.{length, getD, take, drop, length-append, length-drop, take-append-drop, drop-of-length-le}
-use lib.Seq.{length-take-le, drop-drop, take-at, drop-at, getD-drop, drop-append-seam, take-append-add}
-use lib.Dec.{eqb, ltb, leb}
+use lib.ListN.{length, take, drop, length-append, length-drop, take-append-drop, drop-of-length-le}
+use lib.Seq.{drop-drop, take-at, drop-at, drop-append-seam, take-append-add}
+use lib.Dec.{leb}
 use borrow.Author.Tests.{ltb-true, leb-true, le-leb, lt-leb}
-use Rattle.lists.specs.Pick.{pick}
 use Rattle.lists.specs.Parts.{part, IsBytes}
-use Rattle.lists.proofs.Tests.{cases, and-left, and-right, and-both}
-use Rattle.lists.proofs.PartLaws.{length-part, length-zero, rest-is}
+use Rattle.lists.proofs.Tests.{cases, and-left, and-right}
+use Rattle.lists.proofs.PartLaws.{length-part, length-zero, rest-is, bytes-drop}
 use Rattle.cause.specs.declared.Verdict.{Verdict}
 use Rattle.cause.specs.declared.Verdict.the-variants.{Sound, Faulty}
 use Rattle.cause.specs.declared.Cause.{Cause}
 use Rattle.cause.specs.declared.Cause.the-variants.{BrokenRecord}
 use Rattle.message.specs.Heads.{isMessage, msgSize}
-use Rattle.message.proofs.HeadLaws.{Message, is-message, size-most}
-use Rattle.record.specs.Number.{largest, groups, number, usedOf, readGroups, readNumber}
+use Rattle.message.proofs.HeadLaws.{is-message, size-most}
+use Rattle.record.specs.Number.{largest, number, readNumber}
 use Rattle.record.specs.Records.{recordOf, recordsOf, AllMessages, cut, firstOf, messageOf, onward, faultFrom, listFault}
 use Rattle.record.specs.declared.number.Number.{Number}
 use Rattle.record.specs.declared.number.Number.the-variants.{Broken, Value}
 use Rattle.record.specs.declared.list.First.{First}
 use Rattle.record.specs.declared.list.First.the-variants.{Empty, Bad, Whole}
-use Rattle.record.proofs.NumberLaws.{Stands, read-written, written-read, used-groups}
+use Rattle.record.proofs.NumberLaws.{Stands, read-written, written-read}
 
 -- ---- the first record
 
@@ -208,10 +205,6 @@ found l at r f e q = ap firstOf (sym (rest-is l at)) ∙ sym e ∙ q
 -- the offset behind a record
 pub offset-next : (l : List ℕ) (at start end : ℕ) → at < length l → firstOf (drop at l) ≡ Whole start end → (at < at + end) × (at + end ≤ length l)
 offset-next l at start end h e = let w = first-within (drop at l) start end e in let n = length-drop at l in (omega arith, omega arith)
-
--- the bytes of a list behind an offset
-bytes-drop : (l : List ℕ) (at : ℕ) → IsBytes l → IsBytes (drop at l)
-bytes-drop l at h i = rw (getD-drop at l i 0) (h (at + i))
 
 first-empty : (l : List ℕ) → firstOf l ≡ Empty → l ≡ []
 first-empty [] e = refl

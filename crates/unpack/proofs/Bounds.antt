@@ -4,13 +4,12 @@ use mathlib.Core.Path.{_≡_, refl, sym, ap, _∙_}
 use mathlib.Core.Bool.{_&&_}
 use mathlib.Core.List.{List, [], _∷_}
 use native.Mathlib.Omega.{arith}
-use lib.ListN.{length, take, drop, length-append, length-drop, length-take}
-use lib.Seq.{getD-drop}
+use lib.ListN.{length, take, drop, length-drop, length-take}
 use lib.Dec.{ltb, leb}
 use borrow.Author.Tests.{leb-true}
 use Rattle.lists.specs.Parts.{IsBytes, zeros}
 use Rattle.lists.proofs.Tests.{and-left, and-right}
-use Rattle.lists.proofs.PartLaws.{length-part}
+use Rattle.lists.proofs.PartLaws.{length-part, bytes-drop}
 use Rattle.cause.specs.Checks.{firstFault}
 use Rattle.cause.specs.declared.Verdict.{Verdict}
 use Rattle.cause.specs.declared.Verdict.the-variants.{Sound, Faulty}
@@ -19,7 +18,7 @@ use Rattle.container.specs.Grants.{headerGrant}
 use Rattle.container.specs.declared.grant.Grant.{Grant}
 use Rattle.message.specs.Heads.{msgSize}
 use Rattle.message.proofs.HeadLaws.{is-message, size-most}
-use Rattle.record.specs.Number.{groups, usedOf, readGroups, readNumber}
+use Rattle.record.specs.Number.{readNumber}
 use Rattle.record.specs.Records.{firstOf, messageOf}
 use Rattle.record.specs.declared.number.Number.{Number}
 use Rattle.record.specs.declared.number.Number.the-variants.{Value}
@@ -42,7 +41,7 @@ pub record Inside (l : List ℕ) (at start end : ℕ) : Type 0 where
 
 pub inside : (l : List ℕ) (at start end : ℕ) (r : First) → IsBytes l → at < length l → r ≡ firstOf (take (length l - at) (drop at l)) → r ≡ Whole start end → Inside l at start end
 inside l at start end r h b e q =
-    let s = first-splits (drop at l) (λ (i : ℕ). rw (getD-drop at l i 0) (h (at + i))) start end (found l at r (Whole start end) e q) in
+    let s = first-splits (drop at l) (bytes-drop l at h) start end (found l at r (Whole start end) e q) in
     let w = s .within in
     let n = length-drop at l in
     let m = messageOf (drop at l) start end in

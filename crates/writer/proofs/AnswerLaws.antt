@@ -1,10 +1,10 @@
--- A fill by its verdict: answer, next writer and container, as the code makes them. Assumes nothing.
-use Prim.Native.Nat.{ℕ, _+_, _-_, _%_, _^_, _≤_, _<_}
-use mathlib.Core.Path.{_≡_, refl, sym, ap, _∙_, subst}
-use mathlib.Core.Bool.{Bool, true, false}
+-- A fill by its verdict: answer, next writer and container, as the code makes them; and its verdict by its answer. Assumes nothing.
+use Prim.Native.Nat.{ℕ, _+_, _-_, _%_, _≤_, _<_}
+use mathlib.Core.Path.{_≡_, refl, sym, ap, _∙_}
+use mathlib.Core.Bool.{true, false}
 use mathlib.Core.List.{List}
 use native.Mathlib.Omega.{arith}
-use lib.ListN.{length, take, drop, replicate, length-take}
+use lib.ListN.{length, take, drop, replicate}
 use lib.Seq.{length-take-le}
 use Rattle.lists.specs.Pick.{pick}
 use Rattle.lists.specs.Parts.{pad}
@@ -19,12 +19,21 @@ use Rattle.writer.specs.Filling.{tailOf, writerWith, fillFault, answerOf
 use Rattle.writer.specs.Holding.{Sane, owedOf, cursorAt, laidTo}
 use Rattle.writer.specs.declared.cursor.Cursor.{Cursor}
 use Rattle.writer.specs.declared.writer.Writer.{Writer}
-use Rattle.writer.specs.declared.writer.Answer.{Answer}
 use Rattle.writer.specs.declared.writer.Answer.the-variants as answer
 use Rattle.writer.specs.declared.writer.Step.{Step}
-use Rattle.writer.proofs.StateCases.{Valid, Callable, fill-callable}
+use Rattle.writer.proofs.StateCases.{Callable, fill-callable}
 use Rattle.writer.proofs.SaneLaws.{sane-at}
 use Rattle.writer.proofs.HoldLaws.{owed-length, held-filled, held-owes, held-used}
+
+-- ---- from an answer to its verdict
+
+pub filling-faulty : (v : Verdict) (n : ℕ) (k : Cause) (p : ℕ) → answerOf v n ≡ answer.Refused k p → v ≡ Faulty k p
+filling-faulty Sound n k p e = let z : _≡_ {A = ℕ} 0 1 = cc in absurd (omega arith)
+filling-faulty (Faulty a b) n k p e = cc
+
+pub filling-sound : (v : Verdict) (n u : ℕ) → answerOf v n ≡ answer.Filled u → (v ≡ Sound) × (n ≡ u)
+filling-sound Sound n u e = (refl, cc)
+filling-sound (Faulty a b) n u e = let z : _≡_ {A = ℕ} 0 1 = cc in absurd (omega arith)
 
 -- ---- what is owed, by where it lies
 

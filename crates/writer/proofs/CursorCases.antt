@@ -7,17 +7,15 @@ use mathlib.Core.Logic.{⊎-elim}
 use native.Mathlib.Omega.{arith}
 use lib.ListN.{length, getD, take, drop, length-take}
 use lib.Seq.{getD-take, getD-drop, take-take, take-all, drop-drop}
-use lib.Dec.{eqb, ltb, leb, leb→le}
+use lib.Dec.{ltb, leb, leb→le}
 use borrow.Author.Tests.{not-true, not-false, eq-eqb, ne-eqb, ltb-true, ltb-false}
 use Rattle.lists.specs.Pick.{pick}
 use Rattle.lists.specs.Parts.{put, pad}
 use Rattle.lists.proofs.Tests.{cases}
-use Rattle.lists.proofs.PickLaws.{pick-both}
 use Rattle.lists.proofs.Tables.{below-at}
 use Rattle.container.specs.Layout.{Format, start}
 use Rattle.container.specs.declared.grant.Grant.{Grant}
-use Rattle.message.specs.Heads.{typeOf, opOf, resp, resp2, miscU}
-use Rattle.message.specs.Places.{responsesBy, miscsBy}
+use Rattle.message.specs.Heads.{typeOf, opOf}
 use Rattle.record.specs.Records.{firstOf, messageOf}
 use Rattle.record.specs.declared.list.First.{First}
 use Rattle.record.specs.declared.list.First.the-variants.{Empty, Bad, Whole}
@@ -27,14 +25,6 @@ use Rattle.writer.specs.declared.cursor.Cursor.{Cursor}
 -- the value of a bit of MsgStart
 pub power-low : (g : ℕ) → g < 12 → 2 ^ g ≤ 2048
 power-low g h = leb→le (2 ^ g) 2048 (below-at 12 (λ k. leb (2 ^ k) 2048) tt g h)
-
--- what a message counts for in its group
-pub miscs-most : (t : ℕ) → miscsBy t ≤ 1
-miscs-most t = pick-both (λ (k : ℕ). k ≤ 1) (eqb t miscU) (omega arith) (omega arith)
-
-pub responses-most : (t : ℕ) → responsesBy t ≤ 2
-responses-most t =
-    pick-both (λ (k : ℕ). k ≤ 2) (eqb t resp) (omega arith) (pick-both (λ (k : ℕ). k ≤ 2) (eqb t resp2) (omega arith) (omega arith))
 
 -- the next 20 bytes owed, where they lie in the list s
 module _ (t l s : List ℕ) (g : ℕ) (p : Cursor) (h : Sane t l g p) (some : 0 < p .left) (e : pick (p .tail) t l ≡ s) where

@@ -8,8 +8,8 @@ use native.Mathlib.Omega.{arith}
 use native.Mathlib.Nat.{add-assoc}
 use lib.ListN.{length, take, drop}
 use lib.Dec.{leb}
-use borrow.Author.Tests.{leb-true, le-leb}
-use Rattle.lists.proofs.Tests.{cases, never-both, and-left, and-right}
+use borrow.Author.Tests.{not-true, leb-true, le-leb}
+use Rattle.lists.proofs.Tests.{cases, never-both, and-left, and-right, and-assoc, and-false}
 use Rattle.cause.specs.Checks.{Pass}
 use Rattle.message.specs.Places.{miscs, responses}
 use Rattle.reader.specs.Cells.{Cell}
@@ -17,11 +17,6 @@ use Rattle.reader.specs.Checking.{populated, nonePopulated, noGap, starting, su
 use Rattle.writer.specs.Plan.{groupOk}
 
 -- ---- cells that are not populated
-
--- a test whose negation holds fails
-not-false : (b : Bool) → not b ≡ true → b ≡ false
-not-false true e = sym e
-not-false false e = refl
 
 not-start : (e : Cell) → populated e ≡ false → e .starts ≡ false
 not-start e p = second (e .goesOn) (e .starts) p
@@ -32,7 +27,7 @@ not-start e p = second (e .goesOn) (e .starts) p
 
 -- of cells that are not populated, the first and the others
 head-none : (z : Cell) (zs : List Cell) → nonePopulated (z ∷ zs) ≡ true → populated z ≡ false
-head-none z zs h = not-false (populated z) (and-left (not (populated z)) (nonePopulated zs) h)
+head-none z zs h = not-true (populated z) (and-left (not (populated z)) (nonePopulated zs) h)
 
 rest-none : (z : Cell) (zs : List Cell) → nonePopulated (z ∷ zs) ≡ true → nonePopulated zs ≡ true
 rest-none z zs h = and-right (not (populated z)) (nonePopulated zs) h
@@ -68,6 +63,33 @@ gap-none (z ∷ zs) h = rw (head-none z zs h) (rest-none z zs h)
 gap-both : (es zs : List Cell) → nonePopulated zs ≡ true → noGap (es ++ zs) ≡ noGap es
 gap-both [] zs h = gap-none zs h
 gap-both (e ∷ es) zs h = rw (gap-both es zs h, none-both es zs h)
+
+-- every cell is populated
+abbrev pub allPopulated : List Cell → Bool
+allPopulated [] = true
+allPopulated (e ∷ es) = populated e && allPopulated es
+
+and-true : (b : Bool) → (b && true) ≡ b
+and-true true = refl
+and-true false = refl
+
+-- one cell more
+pub all-more : (es : List Cell) (e : Cell) → allPopulated (es ++ (e ∷ [])) ≡ (allPopulated es && populated e)
+all-more [] e = and-true (populated e)
+all-more (d ∷ es) e = rw (all-more es e) (sym (and-assoc (populated d) (allPopulated es) (populated e)))
+
+pub sum-more : (f : List ℕ → ℕ) (es : List Cell) (e : Cell) → sumOf f (es ++ (e ∷ [])) ≡ sumOf f es + starting f e
+sum-more f es e = omega (arith, sum-both f es (e ∷ []))
+
+none-more : (es : List Cell) (e : Cell) → populated e ≡ true → nonePopulated (es ++ (e ∷ [])) ≡ false
+none-more [] e h = rw h
+none-more (d ∷ es) e h = rw (none-more es e h) (and-false (not (populated d)))
+
+-- behind a cell that is populated there is no gap exactly where all others are
+pub gap-more : (es : List Cell) (e : Cell) → populated e ≡ true → noGap (es ++ (e ∷ [])) ≡ allPopulated es
+gap-more [] e h = rw h
+gap-more (d ∷ es) e h =
+    ⊎-elim (λ (t : populated d ≡ true). rw (t, gap-more es e h)) (λ (t : populated d ≡ false). rw (t, none-more es e h)) (cases (populated d))
 
 -- unpopulated cells at the end of a group change none of its tests
 pub ok-both : (es zs : List Cell) → nonePopulated zs ≡ true → groupOk (es ++ zs) ≡ groupOk es

@@ -1,7 +1,7 @@
 -- The groups of the writer's plan keep their rules. Assumes nothing.
 use Prim.Native.Nat.{ℕ, zero, suc, _+_, _%_, _≤_, _<_}
-use mathlib.Core.Path.{_≡_, refl, _∙_, subst}
-use mathlib.Core.Bool.{Bool, true, false, _&&_, _||_, not}
+use mathlib.Core.Path.{_≡_, refl, sym, _∙_, subst}
+use mathlib.Core.Bool.{true, false, _&&_, _||_, not}
 use mathlib.Core.List.{List, [], _∷_, _++_}
 use mathlib.Core.Logic.{_⊎_, inl, inr, ⊎-elim}
 use native.Mathlib.Omega.{arith}
@@ -9,7 +9,7 @@ use native.Mathlib.Nat.{add-zero}
 use lib.ListN.{length, drop}
 use lib.Dec.{eqb}
 use borrow.Author.Tests.{ne-eqb, eqb-true, eqb-false}
-use Rattle.lists.proofs.Tests.{cases, never-both, and-left, and-right, and-false}
+use Rattle.lists.proofs.Tests.{cases, and-left, and-right}
 use Rattle.cause.specs.Checks.{Pass}
 use Rattle.container.specs.Layout.{Format, wide}
 use Rattle.container.specs.Grants.{noCounts}
@@ -20,40 +20,18 @@ use Rattle.record.specs.Records.{firstOf, messageOf}
 use Rattle.record.specs.declared.list.First.{First}
 use Rattle.record.specs.declared.list.First.the-variants.{Empty, Bad, Whole}
 use Rattle.reader.specs.Cells.{Cell}
-use Rattle.reader.specs.Checking.{populated, nonePopulated, noGap, sumOf, oneMisc, fourResponses, groupChecks}
+use Rattle.reader.specs.Checking.{populated, noGap, sumOf, oneMisc, fourResponses, groupChecks}
 use Rattle.writer.specs.Plan.{emptyCell, startCell, onCell, groupOk, legal, Cursor, Given, nothing, startNext, give, groupAfter, cursorAfter, plan}
-use Rattle.writer.proofs.GroupLaws.{sum-both, ok-both, group-checks}
-
--- every cell is populated
-abbrev pub allPopulated : List Cell → Bool
-allPopulated [] = true
-allPopulated (e ∷ es) = populated e && allPopulated es
+use Rattle.writer.proofs.GroupLaws.{allPopulated, all-more, sum-more, gap-more, ok-both, group-checks}
 
 -- ---- one more cell
 
-gap-full : (es : List Cell) (e : Cell) → allPopulated es ≡ true → noGap (es ++ (e ∷ [])) ≡ true
-gap-full [] e a = ⊎-elim (λ (p : populated e ≡ true). rw p) (λ (p : populated e ≡ false). rw p) (cases (populated e))
-gap-full (x ∷ es) e a = rw (and-left (populated x) (allPopulated es) a) (gap-full es e (and-right (populated x) (allPopulated es) a))
-
-full-more : (es : List Cell) (e : Cell) → allPopulated es ≡ true → populated e ≡ true → allPopulated (es ++ (e ∷ [])) ≡ true
-full-more [] e a p = rw p
-full-more (x ∷ es) e a p = rw (and-left (populated x) (allPopulated es) a) (full-more es e (and-right (populated x) (allPopulated es) a) p)
-
 -- where the last is populated, no gap means that all are
-none-not : (es : List Cell) (e : Cell) → populated e ≡ true → nonePopulated (es ++ (e ∷ [])) ≡ false
-none-not [] e p = rw p
-none-not (x ∷ es) e p = rw (none-not es e p) (and-false (not (populated x)))
-
-pub gap-all : (es : List Cell) (e : Cell) → populated e ≡ true → noGap (es ++ (e ∷ [])) ≡ true → allPopulated (es ++ (e ∷ [])) ≡ true
-gap-all [] e p h = rw p
-gap-all (x ∷ es) e p h =
-    ⊎-elim (full (λ k. gap-all es e p k)) (λ (q : populated x ≡ false). absurd (never-both (none-not es e p) (rw q at h))) (cases (populated x))
-  where
-    full : (noGap (es ++ (e ∷ [])) ≡ true → allPopulated (es ++ (e ∷ [])) ≡ true) → populated x ≡ true → allPopulated ((x ∷ es) ++ (e ∷ [])) ≡ true
-    full ih q = rw q (ih (rw q at h))
+gap-all : (es : List Cell) (e : Cell) → populated e ≡ true → noGap (es ++ (e ∷ [])) ≡ true → allPopulated (es ++ (e ∷ [])) ≡ true
+gap-all es e p h = all-more es e ∙ rw (sym (gap-more es e p) ∙ h, p)
 
 sum-idle : (f : List ℕ → ℕ) (es : List Cell) (e : Cell) → e .starts ≡ false → sumOf f (es ++ (e ∷ [])) ≡ sumOf f es
-sum-idle f es e p = sum-both f es (e ∷ []) ∙ rw p (add-zero (sumOf f es))
+sum-idle f es e p = sum-more f es e ∙ rw p (add-zero (sumOf f es))
 
 -- a cell in which nothing starts keeps the sums
 ok-idle : (es : List Cell) (e : Cell) → e .starts ≡ false → noGap (es ++ (e ∷ [])) ≡ true → groupOk es ≡ true → groupOk (es ++ (e ∷ [])) ≡ true
@@ -95,8 +73,8 @@ module _ (fm : Format) (n : Grant) (g : ℕ) (narrow-last : wide fm g ≡ false 
 
       goes-on : allPopulated es ≡ true → Grown g es (record { cell = onCell (fm .size g) t; owes = drop (fm .size g) t; at = at })
       goes-on f = record {
-        ok = ok-idle es (onCell (fm .size g) t) refl (gap-full es (onCell (fm .size g) t) f) (h .ok);
-        full = λ _ _. full-more es (onCell (fm .size g) t) f refl;
+        ok = ok-idle es (onCell (fm .size g) t) refl (gap-more es (onCell (fm .size g) t) refl ∙ f) (h .ok);
+        full = λ _ _. all-more es (onCell (fm .size g) t) ∙ rw f;
       }
 
       busy : eqb (length t) 0 ≡ false → Grown g es (give fm n l g w)

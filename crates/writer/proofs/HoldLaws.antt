@@ -1,8 +1,8 @@
 -- The numbers that the code keeps follow the plan, granule by granule. Assumes nothing.
 use Prim.Native.Nat.{ℕ, zero, suc, _+_, _-_, _%_, _^_, _≤_, _<_}
 use mathlib.Core.Path.{_≡_, refl, sym, ap, _∙_, subst}
-use mathlib.Core.Bool.{Bool, true, false, _&&_, not}
-use mathlib.Core.List.{List, [], _∷_, _++_}
+use mathlib.Core.Bool.{Bool, true, false}
+use mathlib.Core.List.{List, [], _∷_, _++_, append-nil}
 use mathlib.Core.Logic.{⊎-elim}
 use native.Mathlib.Omega.{arith}
 use native.Mathlib.Nat.{zero-add}
@@ -12,8 +12,8 @@ use lib.Dec.{eqb}
 use borrow.Author.Tests.{eqb-true, eqb-false}
 use Rattle.lists.specs.Pick.{pick}
 use Rattle.lists.specs.Parts.{pad}
-use Rattle.lists.proofs.Tests.{cases, and-assoc, and-false}
-use Rattle.lists.proofs.PartLaws.{length-part, getD-pad, append-nil}
+use Rattle.lists.proofs.Tests.{cases}
+use Rattle.lists.proofs.PartLaws.{length-part, getD-pad}
 use Rattle.container.specs.Layout.{Format, formatOf, wide}
 use Rattle.container.specs.declared.grant.Grant.{Grant}
 use Rattle.container.proofs.Formats.{lawful-of}
@@ -23,7 +23,7 @@ use Rattle.record.specs.Records.{firstOf, messageOf}
 use Rattle.record.specs.declared.list.First.{First}
 use Rattle.record.specs.declared.list.First.the-variants.{Empty, Bad, Whole}
 use Rattle.reader.specs.Cells.{Cell}
-use Rattle.reader.specs.Checking.{populated, nonePopulated, noGap, starting, sumOf}
+use Rattle.reader.specs.Checking.{populated, starting, sumOf}
 use Rattle.writer.specs.Plan as planned
 use Rattle.writer.specs.Plan.{Given, emptyCell, startCell, onCell, legal, nothing, startNext, give, groupAfter, cursorAfter, plan, cursorLast, cursorOf}
 use Rattle.writer.specs.Laying.{startBits, headerBytes, setAll, layCells, containerOf, filled, owesAfter, usedOf}
@@ -31,43 +31,18 @@ use Rattle.writer.specs.Holding.{groupNext, legalBy, owedOf, Sane, curso
 use Rattle.writer.specs.declared.group.Group.{Group}
 use Rattle.writer.specs.declared.cursor.Cursor.{Cursor}
 use Rattle.writer.proofs.PlanLaws.{cursor-last-more, plan-more, plan-length, bits-more, lay-more}
+use Rattle.writer.proofs.GroupLaws.{allPopulated, all-more, sum-more, gap-more}
 use Rattle.writer.proofs.SaneLaws.{sane-at}
 
 -- ---- the present group, by its counts
 
--- every cell is populated
-abbrev pub full : List Cell → Bool
-full [] = true
-full (e ∷ es) = populated e && full es
-
 -- the counts of the cells of a group
 abbrev pub groupOf : List Cell → Group
-groupOf es = record { full = full es; miscs = sumOf miscs es; responses = sumOf responses es }
-
-and-true : (b : Bool) → (b && true) ≡ b
-and-true true = refl
-and-true false = refl
-
-full-more : (es : List Cell) (e : Cell) → full (es ++ (e ∷ [])) ≡ (full es && populated e)
-full-more [] e = and-true (populated e)
-full-more (d ∷ es) e = rw (full-more es e) (sym (and-assoc (populated d) (full es) (populated e)))
-
-sum-more : (f : List ℕ → ℕ) (es : List Cell) (e : Cell) → sumOf f (es ++ (e ∷ [])) ≡ sumOf f es + starting f e
-sum-more f [] e = omega arith
-sum-more f (d ∷ es) e = let h = sum-more f es e in omega arith
+groupOf es = record { full = allPopulated es; miscs = sumOf miscs es; responses = sumOf responses es }
 
 group-more : (g : ℕ) (es : List Cell) (e : Cell) → groupNext g (groupOf es) (populated e) (starting miscs e) (starting responses e) ≡ groupOf (groupAfter g es e)
 group-more g es e =
-    ⊎-elim (λ (t : eqb (g % 3) 2 ≡ true). rw t) (λ (t : eqb (g % 3) 2 ≡ false). rw (t, full-more es e, sum-more miscs es e, sum-more responses es e)) (cases (eqb (g % 3) 2))
-
-none-more : (es : List Cell) (e : Cell) → populated e ≡ true → nonePopulated (es ++ (e ∷ [])) ≡ false
-none-more [] e h = rw h
-none-more (d ∷ es) e h = rw (none-more es e h) (and-false (not (populated d)))
-
-gap-more : (es : List Cell) (e : Cell) → populated e ≡ true → noGap (es ++ (e ∷ [])) ≡ full es
-gap-more [] e h = rw h
-gap-more (d ∷ es) e h =
-    ⊎-elim (λ (t : populated d ≡ true). rw (t, gap-more es e h)) (λ (t : populated d ≡ false). rw (t, none-more es e h)) (cases (populated d))
+    ⊎-elim (λ (t : eqb (g % 3) 2 ≡ true). rw t) (λ (t : eqb (g % 3) 2 ≡ false). rw (t, all-more es e, sum-more miscs es e, sum-more responses es e)) (cases (eqb (g % 3) 2))
 
 -- the type of what starts in a cell
 type-cell : (k : ℕ) (m : List ℕ) → 0 < k → typeOf (pad k (take k m)) ≡ typeOf m

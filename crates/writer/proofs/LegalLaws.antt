@@ -19,7 +19,7 @@ use Rattle.reader.specs.Cells.{Cell}
 use Rattle.reader.specs.Checking.{nonePopulated, groupChecks}
 use Rattle.writer.specs.Plan.{startCell, groupOk, plan, cursorOf}
 use Rattle.writer.specs.OneWay.{groupAt, mayStart, emptiesFrom, soFar, withStart, KeepsWith}
-use Rattle.writer.proofs.Run.{plan-length}
+use Rattle.writer.proofs.PlanLaws.{plan-length}
 use Rattle.writer.proofs.GroupLaws.{front-pass, more-exactly}
 use Rattle.writer.proofs.Groups.{packed-none, groups-pass}
 

@@ -10,7 +10,6 @@ pub mod OneWayLaws
 pub mod LegalLaws
 pub mod FillLaws
 pub mod HeaderLaws
-pub mod GroupCases
 pub mod SaneLaws
 pub mod PlanLaws
 pub mod HoldLaws

@@ -1,13 +1,13 @@
 -- The writer's one way, as document 01 says it record by record, is the way of the plan. Assumes nothing.
 use Prim.Native.Nat.{ℕ, zero, suc, _+_, _-_, _*_, _/_, _%_, _≤_, _<_}
 use mathlib.Core.Path.{_≡_, refl, sym, ap, _∙_, subst}
-use mathlib.Core.Bool.{Bool, true, false}
+use mathlib.Core.Bool.{true, false}
 use mathlib.Core.List.{List, [], _∷_, _++_}
 use mathlib.Core.Logic.{⊎-elim, _↔_}
 use native.Mathlib.Omega.{arith}
 use native.Mathlib.Numerals.{add-one}
 use native.Mathlib.Nat.{zero-add}
-use lib.ListN.{length, getD, take, drop, drop-of-length-le}
+use lib.ListN.{length, take, drop, drop-of-length-le}
 use lib.Seq.{take-suc, drop-append-le, length-take-le, drop-cons}
 use lib.Dec.{eqb}
 use borrow.Author.Tests.{eq-eqb, ne-eqb, eqb-true, eqb-false}
@@ -22,10 +22,10 @@ use Rattle.record.specs.Records.{firstOf, messageOf}
 use Rattle.record.specs.declared.list.First.{First}
 use Rattle.record.specs.declared.list.First.the-variants.{Empty, Bad, Whole}
 use Rattle.reader.specs.Cells.{Cell}
-use Rattle.writer.specs.Plan.{emptyCell, startCell, onCell, legal, Cursor, Given, nothing, startNext, give, groupAfter, cursorAfter, plan, cursorLast, cursorOf}
+use Rattle.writer.specs.Plan.{emptyCell, startCell, onCell, Cursor, Given, nothing, startNext, give, groupAfter, cursorAfter, plan, cursorLast, cursorOf}
 use Rattle.writer.specs.Laying.{usedOf, owesAfter}
 use Rattle.writer.specs.OneWay.{cellOf, groupAt, mayStart, NoneLegal, Empties, Way, goes-on, passes-over, starts, stops, ends}
-use Rattle.writer.proofs.Run.{plan-length}
+use Rattle.writer.proofs.PlanLaws.{cursor-last-more, plan-length}
 
 module _ (fm : Format) (n : Grant) (l : List ℕ) (es : List Cell) (used : ℕ) (owes : List ℕ) where
   abbrev From : ℕ → List ℕ → ℕ → Type 0
@@ -105,12 +105,6 @@ group-next es g b =
 -- ---- the plan by its granules
 
 module _ (fm : Format) (n : Grant) (l : List ℕ) where
-  -- the writer one granule further on
-  cursor-further : (k g : ℕ) (w : Cursor) → cursorLast fm n l (suc k) g w ≡ cursorAfter (g + k) (cursorLast fm n l k g w) (give fm n l (g + k) (cursorLast fm n l k g w))
-  unfolding cursorLast
-  cursor-further zero g w = let e : g + 0 ≡ g = omega arith in rw e
-  cursor-further (suc k) g w = let e : g + suc k ≡ (g + 1) + k = omega arith in rw e (cursor-further k (g + 1) (cursorAfter g w (give fm n l g w)))
-
   -- the cell of a granule is given by the writer there
   plan-cell : (k g j : ℕ) (w : Cursor) → j < k → cellOf (plan fm n l k g w) j ≡ give fm n l (g + j) (cursorLast fm n l j g w) .cell
   unfolding plan cursorLast
@@ -126,7 +120,7 @@ module _ (fm : Format) (n : Grant) (l t : List ℕ) where
   cursor g = cursorLast fm n l g 0 (cursorOf t)
 
   cursor-next : (g : ℕ) → cursor (suc g) ≡ cursorAfter g (cursor g) (give fm n l g (cursor g))
-  cursor-next g = let e : 0 + g ≡ g = zero-add g in rw e at (cursor-further fm n l g 0 (cursorOf t))
+  cursor-next g = let e : 0 + g ≡ g = zero-add g in rw e at (cursor-last-more fm n l g 0 (cursorOf t))
 
   cell-at : (g : ℕ) → g < 12 → cellOf laid g ≡ give fm n l g (cursor g) .cell
   cell-at g b = let e : 0 + g ≡ g = zero-add g in rw e at (plan-cell fm n l 12 0 g (cursorOf t) b)

@@ -1,11 +1,10 @@
 -- Demand 2, the return of messages: what a new writer has filled, a new reader of the same format reads back. Assumes nothing.
 use Prim.Native.Nat.{ℕ, _<_}
 use mathlib.Core.Path.{_≡_, refl, sym, ap, _∙_, subst}
-use mathlib.Core.List.{List, [], _∷_, _++_, append-assoc}
+use mathlib.Core.List.{List, [], _∷_, _++_, append-assoc, append-nil}
 use lib.ListN.{length, take, drop}
 use lib.Seq.{take-add, take-length}
 use borrow.Author.Tests.{eq-eqb}
-use Rattle.lists.proofs.PartLaws.{append-nil}
 use Rattle.container.specs.declared.grant.Grant.{Grant}
 use Rattle.reader.specs.Reading.{readerWith}
 use Rattle.reader.specs.declared.reader.Reader.{Reader}

@@ -2,7 +2,7 @@
 use Prim.Native.Nat.{ℕ, zero, suc, _+_, _-_, _*_, _%_, _≤_, _<_}
 use mathlib.Core.Path.{_≡_, refl, sym, ap, _∙_, subst}
 use mathlib.Core.Bool.{Bool, true, false, _&&_, _||_, not}
-use mathlib.Core.List.{List, [], _∷_, _++_, append-assoc, append-cancel-right}
+use mathlib.Core.List.{List, [], _∷_, _++_, append-assoc, append-cancel-right, append-nil}
 use mathlib.Core.Logic.{⊎-elim}
 use native.Mathlib.Omega.{arith}
 use lib.ListN.{length, take, drop, replicate, length-append, take-append-drop}
@@ -11,11 +11,9 @@ use lib.Dec.{eqb, ltb}
 use borrow.Author.Tests.{lt-ltb, le-leb, eq-eqb, ltb-true}
 use Rattle.lists.specs.Parts.{IsBytes}
 use Rattle.lists.proofs.Tests.{cases, and-left, and-right, or-true}
-use Rattle.lists.proofs.PartLaws.{append-nil}
-use Rattle.cause.specs.Checks.{Pass, firstFault, orElse}
-use Rattle.cause.specs.declared.Verdict.{Verdict}
-use Rattle.cause.specs.declared.Verdict.the-variants.{Sound, Faulty}
-use Rattle.cause.proofs.CheckLaws.{pass-sound, sound-pass, pass-append}
+use Rattle.cause.specs.Checks.{Pass, firstFault}
+use Rattle.cause.specs.declared.Verdict.the-variants.{Sound}
+use Rattle.cause.proofs.CheckLaws.{pass-sound, sound-pass, pass-append, both-sound}
 use Rattle.container.specs.Layout.{Format, formatOf, wide}
 use Rattle.container.specs.Lawful.{howMany}
 use Rattle.container.specs.Grants.{headerGrant, planeAllowed, noCounts}
@@ -36,14 +34,16 @@ use Rattle.reader.proofs.CarryLaws.{with-valid}
 use Rattle.reader.proofs.AnswerLaws.{read-done}
 use Rattle.writer.specs.Plan.{startCell, groupOk, legal, Cursor, Given, give, cursorAfter, plan, cursorLast, cursorOf}
 use Rattle.writer.specs.Laying.{filled, owesAfter, usedOf}
-use Rattle.writer.specs.Filling.{tailOf, writerWith, callChecks, fillFault, answerOf, filling, fillBytes}
+use Rattle.writer.specs.Filling.{tailOf, writerWith, callChecks, fillFault, filling, fillBytes}
 use Rattle.writer.specs.Calls.{Fills, Reads, underWay}
 use Rattle.writer.specs.declared.writer.Writer.{Writer}
 use Rattle.writer.specs.declared.writer.Answer.the-variants as answer
 use Rattle.writer.proofs.Simulation.{Link, idle, busy, begun, message-most, size-m, owed-m, start-head, legal-placed, Left, is-next, give-next, give-not, give-none, give-on, give-over, step-followed}
-use Rattle.writer.proofs.Run.{Written, Ran, plan-length, plan-followed, cells-shown}
+use Rattle.writer.proofs.Run.{Written, Ran, plan-followed, cells-shown}
+use Rattle.writer.proofs.PlanLaws.{plan-length}
 use Rattle.writer.proofs.Groups.{packed-none, groups-pass}
 use Rattle.writer.proofs.Container as made
+use Rattle.writer.proofs.AnswerLaws.{filling-sound}
 
 -- ---- the rules of the plan
 
@@ -234,14 +234,6 @@ pub record Filled (f : ℕ) (t l : List ℕ) (n : Grant) (c : List ℕ) (u : ℕ
   pub allowed : planeAllowed n ≡ true
   pub sound : listFault l ≡ Sound
 
-answer-filled : (v : Verdict) (u₀ u : ℕ) → answerOf v u₀ ≡ answer.Filled u → (v ≡ Sound) × (u₀ ≡ u)
-answer-filled Sound u₀ u e = (refl, cc)
-answer-filled (Faulty c p) u₀ u e = let z : _≡_ {A = ℕ} 0 1 = cc in absurd (omega arith)
-
-both-sound : (x y : Verdict) → orElse x y ≡ Sound → (x ≡ Sound) × (y ≡ Sound)
-both-sound Sound y e = (refl, e)
-both-sound (Faulty c p) y e = let z : _≡_ {A = ℕ} 0 1 = cc in absurd (omega arith)
-
 -- what a fault that is none says of the grant and of the list
 record Checked (l : List ℕ) (n : Grant) : Type 0 where
   low : n .rp < 8
@@ -263,7 +255,7 @@ pub is-filled : (f : ℕ) (t l : List ℕ) (n : Grant) (c : List ℕ) (u : ℕ) 
 unfolding filling fillBytes
 is-filled f t l n c u w′ h =
     let w = writerWith f t in
-    let a = answer-filled (fillFault w l n 256) (usedOf (formatOf f) n (tailOf w) l) u (h .answer) in
+    let a = filling-sound (fillFault w l n 256) (usedOf (formatOf f) n (tailOf w) l) u (h .answer) in
     let k = checked w l n (a .0) in
     record {
       container = rw (a .0, tail-of f t) at (h .bytes (replicate 256 0) refl);

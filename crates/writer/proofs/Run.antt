@@ -15,11 +15,6 @@ use Rattle.reader.specs.Checking.{cellChecks}
 use Rattle.writer.specs.Plan.{Cursor, Given, give, cursorAfter, plan, cursorLast}
 use Rattle.writer.proofs.Simulation.{Link, begun, Left, Steps, step-followed}
 
-pub plan-length : (fm : Format) (n : Grant) (l : List ℕ) (k g : ℕ) (w : Cursor) → length (plan fm n l k g w) ≡ k
-unfolding plan
-plan-length fm n l zero g w = refl
-plan-length fm n l (suc k) g w = ap suc (plan-length fm n l k (g + 1) (cursorAfter g w (give fm n l g w)))
-
 -- a cell of the writer, with m read before it: as the reader sees it, of its granule's size, and with its rules kept
 pub record WrittenCell (fm : Format) (g : ℕ) (m : List ℕ) (e : Cell) : Type 0 where
   pub on : (ltb 0 (owed m) && wide fm g) ≡ e .goesOn

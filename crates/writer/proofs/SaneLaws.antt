@@ -1,15 +1,14 @@
 -- The numbers that the code keeps of a writer stay within bounds from granule to granule. Assumes nothing.
 use Prim.Native.Nat.{ℕ, zero, suc, _+_, _-_, _%_, _≤_, _<_}
-use mathlib.Core.Path.{_≡_, refl, subst}
+use mathlib.Core.Path.{_≡_, refl}
 use mathlib.Core.Bool.{Bool, true, false, _&&_, _||_, not}
 use mathlib.Core.List.{List, [], _∷_}
-use mathlib.Core.Logic.{_⊎_, ⊎-elim}
+use mathlib.Core.Logic.{⊎-elim}
 use native.Mathlib.Omega.{arith}
 use native.Mathlib.Nat.{pow-suc}
-use native.Mathlib.Numerals.{add-one}
 use lib.ListN.{length, drop, length-drop}
 use lib.Dec.{eqb, leb}
-use borrow.Author.Tests.{ltb-true, leb-true, eqb-true, eqb-false}
+use borrow.Author.Tests.{leb-true, eqb-true, eqb-false}
 use Rattle.lists.specs.Pick.{pick}
 use Rattle.lists.specs.Parts.{part}
 use Rattle.lists.proofs.Tests.{cases, and-left, and-right}
@@ -21,7 +20,7 @@ use Rattle.container.specs.declared.grant.Grant.{Grant}
 use Rattle.container.proofs.Formats.{lawful-of}
 use Rattle.message.specs.Heads.{typeOf, opOf, msgSize, isMessage, miscBy, activation}
 use Rattle.message.specs.Places.{placed, placedBy, responsesBy, miscsBy}
-use Rattle.message.proofs.HeadLaws.{is-message, Size, size-of}
+use Rattle.message.proofs.HeadLaws.{is-message, message-size}
 use Rattle.message.proofs.PlaceLaws.{placed-fits}
 use Rattle.record.specs.Number.{readNumber}
 use Rattle.record.specs.Records.{cut, firstOf, messageOf}
@@ -56,11 +55,6 @@ pub first-message : (l : List ℕ) (start end : ℕ) → firstOf l ≡ Whole sta
 first-message [] start end q = let z : _≡_ {A = ℕ} 0 1 = cc in absurd (omega arith)
 first-message (b ∷ l) start end q = cut-message (b ∷ l) (readNumber (b ∷ l)) start end q
 
--- the size of a whole message
-pub message-size : (m : List ℕ) → isMessage m ≡ true → Size (length m)
-message-size m e =
-    let h = is-message m e in subst Size (h .sized) (size-of (typeOf m) (opOf m) (ltb-true 0 (msgSize m) (h .is-known)))
-
 -- where a first record behind an offset stands, and how long it is
 pub record Record (l : List ℕ) (at start end : ℕ) : Type 0 where
   pub message : isMessage (messageOf (drop at l) start end) ≡ true
@@ -74,7 +68,7 @@ first-record l at start end h e =
     let n = length-drop at l in
     let m : isMessage (messageOf (drop at l) start end) ≡ true = first-message (drop at l) start end e in
     let k : length (messageOf (drop at l) start end) ≡ end - start = length-part start (end - start) (drop at l) (omega arith) in
-    let s = message-size (messageOf (drop at l) start end) m .least in
+    let s = message-size (messageOf (drop at l) start end) (is-message (messageOf (drop at l) start end) m) .least in
     record { message = m; long = k; ten = omega arith; inside = omega arith }
 
 -- what a whole message leaves behind the granule that it starts in: whole granules, at most five
@@ -92,7 +86,7 @@ start-leaves f g m b e p = ⊎-elim broad narrow (cases (wide (formatOf f) g))
     broad : wide (formatOf f) g ≡ true → ((length m - formatOf f .size g) % 20 ≡ 0) × (length m - formatOf f .size g ≤ 100)
     broad w =
         let k : formatOf f .size g ≡ 20 = eqb-true (formatOf f .size g) 20 w in
-        rw k (⊎-elim (λ (s : length m ≤ 20). let z : length m - 20 ≡ 0 = omega arith in rw z (refl, omega arith)) (λ (s : (length m % 20 ≡ 0) × (length m ≤ 120)). (omega arith, omega arith)) (message-size m e .kind))
+        rw k (⊎-elim (λ (s : length m ≤ 20). let z : length m - 20 ≡ 0 = omega arith in rw z (refl, omega arith)) (λ (s : (length m % 20 ≡ 0) × (length m ≤ 120)). (omega arith, omega arith)) (message-size m (is-message m e) .kind))
 
 -- ---- bounds, granule by granule
 
@@ -196,9 +190,6 @@ module _ (f : ℕ) (n : Grant) (t l : List ℕ) (short : length t ≤ 100) (fits
   sane-next =
       pick-by (Sane t l (suc g)) (eqb (p .left) 0) (λ _. sane-first (firstOf (drop (p .at) l)) refl)
       (λ some. pick-by (Sane t l (suc g)) (wide (formatOf f) g) (λ _. sane-on (eqb-false (p .left) 0 some)) (λ _. sane-empty))
-
-  pub sane-more : Sane t l (g + 1) (cursorNext (formatOf f) n t l g p)
-  sane-more = rw (add-one g) sane-next
 
 -- the cursor at the start of a container
 pub sane-start : (t l : List ℕ) → length t ≤ 100 → length t % 20 ≡ 0 → Sane t l 0 (cursorStarting t)

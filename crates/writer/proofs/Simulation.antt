@@ -2,24 +2,24 @@
 use Prim.Native.Nat.{ℕ, _+_, _-_, _%_, _≤_, _<_}
 use mathlib.Core.Path.{_≡_, refl, sym, ap, _∙_, subst}
 use mathlib.Core.Bool.{true, false, _&&_, _||_, not}
-use mathlib.Core.List.{List, [], _∷_, _++_, append-assoc}
+use mathlib.Core.List.{List, [], _∷_, _++_, append-assoc, append-nil}
 use mathlib.Core.Logic.{_⊎_, inl, inr, ⊎-elim}
 use native.Mathlib.Omega.{arith}
 use lib.ListN.{length, take, drop, replicate, length-append, length-drop, length-replicate, take-append-drop, drop-of-length-le}
 use lib.Seq.{take-all, length-take-le, take-at, drop-at, drop-drop}
 use lib.Dec.{eqb, leb, ltb}
-use borrow.Author.Tests.{lt-ltb, le-leb, lt-leb, ne-eqb, ltb-true, leb-true, leb-false, eqb-true}
+use borrow.Author.Tests.{lt-ltb, le-leb, lt-leb, ne-eqb, leb-true, leb-false, eqb-true}
 use Rattle.lists.specs.Pick.{pick}
 use Rattle.lists.proofs.Tests.{cases, never-both, and-left}
-use Rattle.lists.proofs.PartLaws.{append-nil, length-pad}
+use Rattle.lists.proofs.PartLaws.{length-pad}
 use Rattle.lists.proofs.ZeroLaws.{zeros-replicate}
 use Rattle.cause.specs.Checks.{Pass}
 use Rattle.container.specs.Layout.{Format, wide}
 use Rattle.container.specs.Grants.{noCounts}
 use Rattle.container.specs.declared.grant.Grant.{Grant}
-use Rattle.message.specs.Heads.{typeOf, opOf, msgSize, wellHeaded, isMisc, activation, crdtGrant}
+use Rattle.message.specs.Heads.{msgSize, wellHeaded, isMisc, activation, crdtGrant}
 use Rattle.message.specs.Places.{placed}
-use Rattle.message.proofs.HeadLaws.{Size, size-of, Message, is-message, size-append, misc-append, headed-append, grant-size}
+use Rattle.message.proofs.HeadLaws.{Message, is-message, message-size, size-append, misc-append, headed-append, grant-size}
 use Rattle.message.proofs.PlaceLaws.{placed-append, placed-fits}
 use Rattle.record.specs.Number.{number}
 use Rattle.record.specs.Records.{recordOf, recordsOf, AllMessages, firstOf, messageOf}
@@ -60,10 +60,6 @@ idle-nothing fm g ms = record {
   link = idle;
   out = refl;
 }
-
--- the facts of a message's size
-pub message-size : (m : List ℕ) → Message m → Size (length m)
-message-size m h = subst Size (h .sized) (size-of (typeOf m) (opOf m) (ltb-true 0 (msgSize m) (h .is-known)))
 
 -- no message is longer than 120 bytes
 pub message-most : (m : List ℕ) → Message m → length m ≤ 120

@@ -1,21 +1,20 @@
 -- A writer's state and the checks of a fill, case by case. Assumes nothing.
 use Prim.Native.Nat.{ℕ, _-_, _%_, _≤_, _<_}
-use mathlib.Core.Path.{_≡_, refl, sym, _∙_}
+use mathlib.Core.Path.{_≡_, _∙_}
 use mathlib.Core.Bool.{Bool, true, false, _&&_}
-use mathlib.Core.List.{List, []}
-use native.Mathlib.Omega.{arith}
+use mathlib.Core.List.{List}
 use lib.ListN.{length, take, drop}
 use lib.Dec.{eqb, ltb, leb}
 use borrow.Author.Tests.{lt-ltb, le-ltb, le-leb, lt-leb, eq-eqb, ne-eqb, leb-true, eqb-true, ltb-true}
 use Rattle.lists.specs.Parts.{zeros}
 use Rattle.lists.proofs.Tests.{and-left, and-right}
 use Rattle.lists.proofs.PartLaws.{rest-is}
-use Rattle.cause.specs.Checks.{firstFault, orElse}
+use Rattle.cause.specs.Checks.{firstFault}
 use Rattle.cause.specs.declared.Cause.{Cause}
 use Rattle.cause.specs.declared.Cause.the-variants.{ContainerLength, HeaderGrantForm, TooLong, InvalidState}
 use Rattle.cause.specs.declared.Verdict.{Verdict}
 use Rattle.cause.specs.declared.Verdict.the-variants.{Sound, Faulty}
-use Rattle.cause.proofs.CheckLaws.{sound-pass}
+use Rattle.cause.proofs.CheckLaws.{sound-pass, both-sound}
 use Rattle.container.specs.Grants.{planeAllowed}
 use Rattle.container.specs.declared.grant.Grant.{Grant}
 use Rattle.record.specs.Records.{listFault}
@@ -97,14 +96,10 @@ pub record Callable (w : Writer) (l : List ℕ) (n : Grant) (size : ℕ) : Type 
   pub short : length l ≤ 4096
   pub plane : n .rp < 8
 
-both-sound : (a b : Verdict) → orElse a b ≡ Sound → a ≡ Sound
-both-sound Sound b e = refl
-both-sound (Faulty c p) b e = e
-
 pub fill-callable : (w : Writer) (l : List ℕ) (n : Grant) (size : ℕ) → fillFault w l n size ≡ Sound → Callable w l n size
 unfolding fillFault callChecks
 fill-callable w l n size e =
-    let p = sound-pass (callChecks w (length l) n size) (both-sound (firstFault (callChecks w (length l) n size)) (listFault l) e) in
+    let p = sound-pass (callChecks w (length l) n size) (both-sound (firstFault (callChecks w (length l) n size)) (listFault l) e .0) in
     record {
       valid = writer-ok w (p .0);
       whole = eqb-true size 256 (p .1 .0);

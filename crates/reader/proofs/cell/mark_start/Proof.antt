@@ -1,6 +1,7 @@
 -- `reader::cell::mark_start` meets its contract.
 use native.Mathlib.Omega.{arith}
-use Rattle.reader.proofs.MarkLaws.{responses-most, miscs-most, counts-most}
+use Rattle.message.proofs.PlaceLaws.{responses-most, miscs-most}
+use Rattle.reader.proofs.MarkLaws.{counts-most}
 use borrow.Author.Needs.{needs}
 use Rattle.reader.proofs.cell.mark_start.Statement.{statement}
 use Rattle.reader.proofs.cell.mark_start.Tie as tie

@@ -4,7 +4,8 @@ use Prim.Native.Nat.{_-_}
 use mathlib.Core.Path.{_≡_}
 use mathlib.Core.Logic.{⊎-elim}
 use native.Mathlib.Omega.{arith}
-use Rattle.writer.proofs.CursorCases.{power-low, miscs-most, responses-most}
+use Rattle.message.proofs.PlaceLaws.{miscs-most, responses-most}
+use Rattle.writer.proofs.CursorCases.{power-low}
 use Rattle.writer.proofs.cursor.Cursor.take_record.Statement.{statement}
 use Rattle.writer.proofs.cursor.Cursor.take_record.Tie as tie
 

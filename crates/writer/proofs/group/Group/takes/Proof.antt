@@ -3,7 +3,7 @@ use mathlib.Core.Path.{sym}
 use native.Mathlib.Omega.{arith}
 use borrow.Author.Tests.{le-leb, lt-leb, not-true, not-false}
 use Rattle.lists.proofs.Tests.{and-false}
-use Rattle.writer.proofs.GroupCases.{miscs-most, responses-most}
+use Rattle.message.proofs.PlaceLaws.{miscs-most, responses-most}
 use borrow.Author.Needs.{needs}
 use Rattle.writer.proofs.group.Group.takes.Statement.{statement}
 use Rattle.writer.proofs.group.Group.takes.Tie as tie
