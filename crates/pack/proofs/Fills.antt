@@ -1,17 +1,17 @@
 -- Fills of one list with no grants: where the first is accepted, all are. Assumes nothing.
 use Prim.Native.Nat.{ℕ, _+_, _-_, _≤_, _<_}
-use mathlib.Core.Path.{_≡_, refl, sym, ap, _∙_, subst}
+use mathlib.Core.Path.{_≡_, sym, ap, _∙_, subst}
 use mathlib.Core.List.{List, []}
 use mathlib.Core.Logic.{_⊎_, inr, ⊎-elim}
 use native.Mathlib.Omega.{arith}
-use lib.ListN.{length, take, drop, length-drop}
-use lib.Seq.{drop-drop, getD-drop}
+use lib.ListN.{length, take, drop}
 use Rattle.lists.specs.Parts.{IsBytes}
 use Rattle.lists.proofs.PartLaws.{rest-is, length-zero}
-use Rattle.cause.specs.Checks.{orElse, firstFault}
+use Rattle.cause.specs.Checks.{firstFault}
 use Rattle.cause.specs.declared.Verdict.{Verdict}
 use Rattle.cause.specs.declared.Verdict.the-variants.{Sound, Faulty}
 use Rattle.cause.specs.declared.Cause.{Cause}
+use Rattle.cause.proofs.CheckLaws.{both-sound}
 use Rattle.container.specs.Layout.{formatOf}
 use Rattle.record.specs.Records.{listFault}
 use Rattle.writer.specs.Laying.{filled, owesAfter, usedOf}
@@ -22,103 +22,80 @@ use Rattle.writer.specs.declared.writer.Step.{Step}
 use Rattle.writer.specs.declared.writer.Answer.{Answer}
 use Rattle.writer.specs.declared.writer.Answer.the-variants as answer
 use Rattle.writer.proofs.StateCases.{fill-callable}
-use Rattle.writer.proofs.Simulation.{Link, idle, Left}
-use Rattle.writer.proofs.RoundTrip.{ran, list-left}
-use Rattle.writer.proofs.Bound.{call-fills}
+use Rattle.writer.proofs.AnswerLaws.{filling-faulty, filling-sound}
+use Rattle.writer.proofs.RoundTrip.{list-left}
+use Rattle.writer.proofs.Bound.{Going, going-first, going-more, going-fills}
 
--- a writer behind the first bytes of a list of records
-pub record Going (f : ℕ) (l : List ℕ) (w : Writer) (at : ℕ) : Type 0 where
-  pub carry : List ℕ
-  pub tail : List ℕ
-  pub rest : List (List ℕ)
-  pub is-writer : w ≡ writerWith f tail
-  pub link : Link carry tail
-  pub left : Left l at rest
-
--- an answer and its verdict
-filled-sound : (v : Verdict) (k u : ℕ) → answerOf v k ≡ answer.Filled u → v ≡ Sound
-filled-sound Sound k u e = refl
-filled-sound (Faulty c p) k u e = let z : _≡_ {A = ℕ} 0 1 = cc in absurd (omega arith)
-
-refused-faulty : (v : Verdict) (k : ℕ) (c : Cause) (p : ℕ) → answerOf v k ≡ answer.Refused c p → v ≡ Faulty c p
-refused-faulty Sound k c p e = let z : _≡_ {A = ℕ} 0 1 = cc in absurd (omega arith)
-refused-faulty (Faulty a b) k c p e = cc
-
+-- an answer says one thing
 same-used : (a : Answer) (u v : ℕ) → a ≡ answer.Filled u → a ≡ answer.Filled v → u ≡ v
 same-used a u v p q = cc
 
 never-both : (a : Answer) (u : ℕ) (c : Cause) (p : ℕ) → a ≡ answer.Filled u → a ≡ answer.Refused c p → ⊥
 never-both a u c p e q = let z : _≡_ {A = ℕ} 0 1 = cc in omega arith
 
-list-sound : (a b : Verdict) → orElse a b ≡ Sound → b ≡ Sound
-list-sound Sound b e = e
-list-sound (Faulty c p) b e = let z : _≡_ {A = ℕ} 0 1 = cc in absurd (omega arith)
+-- a writer along a list, with any number of messages not finished
+abbrev pub Under : ℕ → List ℕ → Writer → ℕ → Type 0
+Under f l w at = (k : ℕ) × Going f l k at w
 
 module _ (f : ℕ) (small : f < 2) (l : List ℕ) (hb : IsBytes l) where
   abbrev fresh : Writer
   fresh = writerWith f []
 
   -- a list that the first fill accepts
-  starts : fillFault fresh l zeroGrant 256 ≡ Sound → Going f l fresh 0
+  starts : fillFault fresh l zeroGrant 256 ≡ Sound → Under f l fresh 0
   unfolding fillFault
   starts e =
-      let k = list-left l hb (list-sound (firstFault (callChecks fresh (length l) zeroGrant 256)) (listFault l) e) in
-      record { carry = []; tail = []; rest = k .0; is-writer = refl; link = idle; left = k .1 }
+      let k = list-left l hb (both-sound (firstFault (callChecks fresh (length l) zeroGrant 256)) (listFault l) e .1) in
+      (length (k .0), going-first f l (k .0) (k .1))
 
-  starts-empty : l ≡ [] → Going f l fresh 0
-  starts-empty e = record { carry = []; tail = []; rest = []; is-writer = refl; link = idle; left = record { within = omega arith; records = e; all = tt } }
+  starts-empty : l ≡ [] → Under f l fresh 0
+  starts-empty e = (0, going-first f l [] (record { within = omega arith; records = e; all = tt }))
 
-  module _ (short : length l ≤ 4096) (w : Writer) (at : ℕ) (g : Going f l w at) where
+  module _ (short : length l ≤ 4096) (w : Writer) (at : ℕ) (g : Under f l w at) where
     abbrev rest : List ℕ
     rest = take (length l - at) (drop at l)
 
-    here : Left (drop at l) 0 (g .rest)
-    here = record { within = omega arith; records = g .left .records; all = g .left .all }
+    abbrev used : ℕ
+    used = usedOf (formatOf f) zeroGrant (g .1 .tail) (drop at l)
 
-    call : Fills (writerWith f (g .tail)) (drop at l) zeroGrant (filled (formatOf f) zeroGrant (g .tail) (drop at l)) (usedOf (formatOf f) zeroGrant (g .tail) (drop at l)) (writerWith f (owesAfter (formatOf f) zeroGrant (g .tail) (drop at l)))
-    call =
-        call-fills f zeroGrant (g .carry) (g .tail) (drop at l) (g .rest) small (omega arith) refl (g .link) here
-        (λ i. rw (getD-drop at l i 0) (hb (at + i))) (rw (length-drop at l) (omega arith))
+    abbrev next : Writer
+    next = writerWith f (owesAfter (formatOf f) zeroGrant (g .1 .tail) (drop at l))
 
-    step : filling w rest zeroGrant 256 ≡ filling (writerWith f (g .tail)) (drop at l) zeroGrant 256
-    step = rw (rest-is l at, g .is-writer)
+    call : Fills w (drop at l) zeroGrant (filled (formatOf f) zeroGrant (g .1 .tail) (drop at l)) used next
+    call = going-fills f l (g .0) at w (g .1) small hb short
 
-    goes-on : (r : Step) (u : ℕ) → r ≡ filling w rest zeroGrant 256 → r .answer ≡ answer.Filled u → Going f l (r .writer) (at + u)
-    unfolding owesAfter usedOf
-    goes-on r u e q =
-        let a : r .answer ≡ answer.Filled (usedOf (formatOf f) zeroGrant (g .tail) (drop at l)) = ap (λ (x : Step). x .answer) (e ∙ step) ∙ call .answer in
-        let s : usedOf (formatOf f) zeroGrant (g .tail) (drop at l) ≡ u = same-used (r .answer) _ u a q in
-        let n = ran f zeroGrant (omega arith) refl (g .carry) (g .tail) (drop at l) (g .rest) (g .link) here in
-        let k = n .left .within in
-        let d = length-drop at l in
-        let b = g .left .within in
-        subst (λ (v : ℕ). Going f l (r .writer) (at + v)) s (record {
-          carry = _;
-          tail = owesAfter (formatOf f) zeroGrant (g .tail) (drop at l);
-          rest = n .rest;
-          is-writer = ap (λ (x : Step). x .writer) (e ∙ step) ∙ call .next;
-          link = n .link;
-          left = record { within = omega arith; records = sym (drop-drop _ at l) ∙ n .left .records; all = n .left .all };
-        })
+    -- the fill as the code makes it
+    module _ (r : Step) (e : r ≡ filling w rest zeroGrant 256) where
+      step : r ≡ filling w (drop at l) zeroGrant 256
+      step = e ∙ ap (λ (x : List ℕ). filling w x zeroGrant 256) (rest-is l at)
 
-    never-refused : (r : Step) (c : Cause) (p : ℕ) → r ≡ filling w rest zeroGrant 256 → r .answer ≡ answer.Refused c p → ⊥
-    never-refused r c p e q = never-both (r .answer) _ c p (ap (λ (x : Step). x .answer) (e ∙ step) ∙ call .answer) q
+      answered-used : r .answer ≡ answer.Filled used
+      answered-used = ap (λ (x : Step). x .answer) step ∙ call .answer
 
-    accepted : fillFault (writerWith f (g .tail)) (drop at l) zeroGrant 256 ≡ Sound
+      goes-on : (u : ℕ) → r .answer ≡ answer.Filled u → Under f l (r .writer) (at + u)
+      goes-on u q =
+          let s : used ≡ u = same-used (r .answer) used u answered-used q in
+          let n : next ≡ r .writer = sym (ap (λ (x : Step). x .writer) step ∙ call .next) in
+          (g .0 - 1, subst (λ (v : ℕ). Going f l (g .0 - 1) (at + v) (r .writer)) s (subst (Going f l (g .0 - 1) (at + used)) n (going-more f l (g .0) at w (g .1) _ used next call)))
+
+      never-refused : (c : Cause) (p : ℕ) → r .answer ≡ answer.Refused c p → ⊥
+      never-refused c p q = never-both (r .answer) used c p answered-used q
+
+    accepted : fillFault w (drop at l) zeroGrant 256 ≡ Sound
     unfolding filling
-    accepted = filled-sound _ _ _ (call .answer)
+    accepted = filling-sound _ _ _ (call .answer) .0
 
 -- before the first fill, or behind one of those that follow an accepted first one
 abbrev pub Standing : ℕ → List ℕ → Writer → ℕ → ℕ → Type 0
 Standing f l w at turns =
-    ((at ≡ 0) × (w ≡ writerWith f []) × (0 < turns)) ⊎ ((fillFault (writerWith f []) l zeroGrant 256 ≡ Sound) × Going f l w at)
+    ((at ≡ 0) × (w ≡ writerWith f []) × (0 < turns)) ⊎ ((fillFault (writerWith f []) l zeroGrant 256 ≡ Sound) × Under f l w at)
 
 module _ (f : ℕ) (l : List ℕ) (w : Writer) (at turns : ℕ) (s : Standing f l w at turns) where
   abbrev verdict : Verdict
   verdict = fillFault (writerWith f []) l zeroGrant 256
 
   pub standing-within : at ≤ length l
-  standing-within = ⊎-elim (λ a. let z = a .0 in omega arith) (λ b. b .1 .left .within) s
+  standing-within = ⊎-elim (λ a. let z = a .0 in omega arith) (λ b. b .1 .1 .left .within) s
 
   pub standing-out : turns ≡ 0 → Sound ≡ verdict
   standing-out e = ⊎-elim (λ a. let z = a .2 in absurd (omega arith)) (λ b. sym (b .0)) s
@@ -128,7 +105,6 @@ module _ (f : ℕ) (l : List ℕ) (w : Writer) (at turns : ℕ) (s : Standing f 
     short e = fill-callable (writerWith f []) l zeroGrant 256 e .short
 
     pub standing-done : at ≡ length l → Sound ≡ verdict
-    unfolding starts-empty
     standing-done e =
         ⊎-elim (λ a. let z = a .0 in sym (accepted f small l hb (omega arith) (writerWith f []) 0 (starts-empty f small l hb (length-zero l (omega arith)))))
         (λ b. sym (b .0)) s
@@ -143,11 +119,11 @@ module _ (f : ℕ) (l : List ℕ) (w : Writer) (at turns : ℕ) (s : Standing f 
 
       pub standing-refused : (c : Cause) (p : ℕ) → r .answer ≡ answer.Refused c p → Faulty c p ≡ verdict
       standing-refused c p q =
-          ⊎-elim (λ a. sym (refused-faulty verdict _ c p (answered (a .0) (a .1) ∙ q)))
-          (λ b. absurd (never-refused f small l hb (short (b .0)) w at (b .1) r c p er q)) s
+          ⊎-elim (λ a. sym (filling-faulty verdict _ c p (answered (a .0) (a .1) ∙ q)))
+          (λ b. absurd (never-refused f small l hb (short (b .0)) w at (b .1) r er c p q)) s
 
       pub standing-on : (u next : ℕ) → r .answer ≡ answer.Filled u → Standing f l (r .writer) (at + u) next
       standing-on u next q =
-          ⊎-elim (λ a. let e = filled-sound verdict _ u (answered (a .0) (a .1) ∙ q) in
-          inr (e, goes-on f small l hb (short e) w at (rw (a .0, a .1) (starts f small l hb e)) r u er q))
-          (λ b. inr (b .0, goes-on f small l hb (short (b .0)) w at (b .1) r u er q)) s
+          ⊎-elim (λ a. let e = filling-sound verdict _ u (answered (a .0) (a .1) ∙ q) .0 in
+          inr (e, goes-on f small l hb (short e) w at (rw (a .0, a .1) (starts f small l hb e)) r er u q))
+          (λ b. inr (b .0, goes-on f small l hb (short (b .0)) w at (b .1) r er u q)) s

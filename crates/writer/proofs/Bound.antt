@@ -6,22 +6,23 @@ use mathlib.Core.List.{List, [], _∷_, _++_}
 use mathlib.Core.Logic.{_⊎_, inl, inr, ⊎-elim}
 use native.Mathlib.Omega.{arith}
 use lib.ListN.{length, take, drop, replicate, length-append, length-drop, replicate-append-replicate}
-use lib.Seq.{take-all, drop-at, drop-drop, take-add, take-length, getD-drop}
+use lib.Seq.{take-all, drop-at, drop-drop, take-add, take-length}
 use lib.Dec.{eqb, ltb}
 use borrow.Author.Tests.{lt-ltb, le-leb, eq-eqb, eqb-true, eqb-false}
 use Rattle.lists.specs.Pick.{pick}
 use Rattle.lists.specs.Parts.{IsBytes, pad}
 use Rattle.lists.proofs.Tests.{cases, and-both, or-true}
-use Rattle.lists.proofs.PickLaws.{pick-both}
 use Rattle.lists.proofs.Order.{lt-or-le}
+use Rattle.lists.proofs.PartLaws.{bytes-drop}
 use Rattle.lists.proofs.ZeroLaws.{zeros-replicate}
 use Rattle.cause.specs.declared.Verdict.the-variants.{Sound}
 use Rattle.cause.proofs.CheckLaws.{pass-sound}
 use Rattle.container.specs.Layout.{Format, formatOf, wide}
 use Rattle.container.specs.Grants.{planeAllowed}
 use Rattle.container.specs.declared.grant.Grant.{Grant}
-use Rattle.message.specs.Heads.{typeOf, isMisc, activation, resp, resp2, miscU, linkStatus}
-use Rattle.message.specs.Places.{placed, miscs, responses}
+use Rattle.message.specs.Heads.{typeOf, isMisc, activation, linkStatus}
+use Rattle.message.specs.Places.{placed, miscsBy, responsesBy}
+use Rattle.message.proofs.PlaceLaws.{miscs-most, responses-most}
 use Rattle.record.specs.Records.{recordsOf, AllMessages}
 use Rattle.record.proofs.RecordLaws.{list-exactly}
 use Rattle.reader.specs.Cells.{Cell, after, ended, carryAfter, endings}
@@ -95,17 +96,10 @@ module _ (fm : Format) (n : Grant) (l : List ℕ) where
 pub legal-first : (fm : Format) (m : List ℕ) → wide fm 0 ≡ true → legal fm zeroGrant 0 [] m ≡ true
 legal-first fm m w =
     let p : placed fm 0 m ≡ true = rw w (or-true (not (isMisc m linkStatus))) in
-    let b = startCell (fm .size 0) m .bytes in
-    let a : oneMisc (startCell (fm .size 0) m ∷ []) ≡ true = le-leb (miscs b + 0) 1 (let h = misc-most b in omega arith) in
-    let r : fourResponses (startCell (fm .size 0) m ∷ []) ≡ true = le-leb (responses b + 0) 4 (let h = response-most b in omega arith) in
+    let t = typeOf (startCell (fm .size 0) m .bytes) in
+    let a : oneMisc (startCell (fm .size 0) m ∷ []) ≡ true = le-leb (miscsBy t + 0) 1 (omega (arith, miscs-most t)) in
+    let r : fourResponses (startCell (fm .size 0) m ∷ []) ≡ true = le-leb (responsesBy t + 0) 4 (omega (arith, responses-most t)) in
     rw (p, or-true (not (isMisc m activation)), a, r)
-  where
-    misc-most : (b : List ℕ) → miscs b ≤ 1
-    misc-most b = pick-both (λ (k : ℕ). k ≤ 1) (eqb (typeOf b) miscU) (omega arith) (omega arith)
-
-    response-most : (b : List ℕ) → responses b ≤ 2
-    response-most b =
-        pick-both (λ (k : ℕ). k ≤ 2) (eqb (typeOf b) resp) (omega arith) (pick-both (λ (k : ℕ). k ≤ 2) (eqb (typeOf b) resp2) (omega arith) (omega arith))
 
 -- G0 is wide, and so are five of the other granules
 wide-first : (f : ℕ) → wide (formatOf f) 0 ≡ true
@@ -242,7 +236,7 @@ progress f s w l c u w′ k h some =
     let t′ : tailOf w′ ≡ cursorLast (formatOf f) zeroGrant l 12 0 (cursorOf (k .tail)) .owes = ap tailOf (sym (a .next)) ∙ tail-of f _ in
     rw (t, t′, ← a .used) (progress-with f (k .carry) (k .tail) l (ms .0) (k .link) (ms .1) _ r (rw t at some))
 
--- ---- all fills of a list
+-- ---- a writer along a list
 
 -- what is left of a list, seen from what was left before
 left-here : (l : List ℕ) (at : ℕ) (ms : List (List ℕ)) → Left l at ms → Left (drop at l) 0 ms
@@ -254,6 +248,54 @@ left-there l at u ms b h =
     let d = length-drop at l in
     record { within = omega arith; records = sym (drop-drop u at l) ∙ h .records; all = h .all }
 
+-- a writer behind the first bytes of a list of records, with at most k messages not finished
+pub record Going (f : ℕ) (l : List ℕ) (k at : ℕ) (w : Writer) : Type 0 where
+  pub carry : List ℕ
+  pub tail : List ℕ
+  pub rest : List (List ℕ)
+  pub is-writer : w ≡ writerWith f tail
+  pub link : Link carry tail
+  pub left : Left l at rest
+  pub few : unfinished carry tail rest ≤ k
+
+-- a new writer
+pub going-first : (f : ℕ) (l : List ℕ) (ms : List (List ℕ)) → Left l 0 ms → Going f l (length ms) 0 (writerWith f [])
+going-first f l ms left = record { carry = []; tail = []; rest = ms; is-writer = refl; link = idle; left = left; few = omega arith }
+
+-- a container leaves one less, or none
+one-less : (f : ℕ) (m t l : List ℕ) (ms : List (List ℕ)) (link : Link m t) (left : Left l 0 ms) (w : Cursor)
+    → (r : Ran (formatOf f) l 0 m t 0 ms (plan (formatOf f) zeroGrant l 12 0 (cursorOf t)) w)
+    → unfinished (carryAfter (formatOf f) 0 (plan (formatOf f) zeroGrant l 12 0 (cursorOf t)) m) (w .owes) (r .rest) ≤ unfinished m t ms - 1
+one-less f m t l ms link left w r =
+    ⊎-elim (λ (p : 0 < unfinished m t ms). omega (arith, fewer f m t l ms link left p w r))
+    (λ (p : unfinished m t ms ≤ 0). let e = simp length-append at (ap length (r .out)) in omega arith) (lt-or-le 0 (unfinished m t ms))
+
+module _ (f : ℕ) (l : List ℕ) (k at : ℕ) (w : Writer) (g : Going f l k at w) where
+  -- one fill more
+  pub going-more : (c : List ℕ) (u : ℕ) (w′ : Writer) → Fills w (drop at l) zeroGrant c u w′ → Going f l (k - 1) (at + u) w′
+  unfolding owesAfter usedOf
+  going-more c u w′ h =
+      let here = left-here l at (g .rest) (g .left) in
+      let a = is-filled f (g .tail) (drop at l) zeroGrant c u w′ (rw (g .is-writer) at h) in
+      let r = ran f zeroGrant (a .low) (a .allowed) (g .carry) (g .tail) (drop at l) (g .rest) (g .link) here in
+      record {
+        carry = carryAfter (formatOf f) 0 (plan (formatOf f) zeroGrant (drop at l) 12 0 (cursorOf (g .tail))) (g .carry);
+        tail = owesAfter (formatOf f) zeroGrant (g .tail) (drop at l);
+        rest = r .rest;
+        is-writer = sym (a .next);
+        link = r .link;
+        left = left-there l at u (r .rest) (g .left .within) (subst (λ (i : ℕ). Left (drop at l) i (r .rest)) (a .used) (r .left));
+        few = omega (arith, g .few, one-less f (g .carry) (g .tail) (drop at l) (g .rest) (g .link) here _ r);
+      }
+
+  -- a fill of what is left is accepted
+  pub going-fills : f < 2 → IsBytes l → length l ≤ 4096
+      → Fills w (drop at l) zeroGrant (filled (formatOf f) zeroGrant (g .tail) (drop at l)) (usedOf (formatOf f) zeroGrant (g .tail) (drop at l)) (writerWith f (owesAfter (formatOf f) zeroGrant (g .tail) (drop at l)))
+  going-fills small hb short =
+      rw (g .is-writer)
+      (call-fills f zeroGrant (g .carry) (g .tail) (drop at l) (g .rest) small (omega arith) refl (g .link) (left-here l at (g .rest) (g .left))
+      (bytes-drop l at hb) (rw (length-drop at l) (omega arith)))
+
 -- where no message is unfinished, all of the list is used and nothing is owed
 all-used : (m t l : List ℕ) (ms : List (List ℕ)) (at : ℕ) → Left l at ms → unfinished m t ms ≡ 0 → (at ≡ length l) × (length t ≡ 0)
 all-used m t l [] at left e =
@@ -262,44 +304,42 @@ all-used m t l [] at left e =
     (omega arith, ⊎-elim (λ x. x .0) (λ x. let z = x .1 in absurd (omega arith)) (begun-count m t))
 all-used m t l (x ∷ ms) at left e = absurd (omega arith)
 
-module _ (f : ℕ) (small : f < 2) (l : List ℕ) (hb : IsBytes l) (short : length l ≤ 4096) where
-  abbrev Fillings : List (List ℕ) → ℕ → List ℕ → Type 0
-  Fillings cs at t = FillingList (writerWith f []) l zeroGrant cs at (writerWith f t)
+going-none : (f : ℕ) (l : List ℕ) (at : ℕ) (w : Writer) → Going f l 0 at w → (at ≡ length l) × (length (tailOf w) ≡ 0)
+going-none f l at w g =
+    let a = all-used (g .carry) (g .tail) l (g .rest) at (g .left) (omega (arith, g .few)) in
+    (a .0, rw (g .is-writer, tail-of f (g .tail)) (a .1))
 
-  none-left : (m t : List ℕ) (ms : List (List ℕ)) (at p : ℕ) (cs : List (List ℕ)) → Left l at ms → Fillings cs at t
-      → unfinished m t ms ≡ 0 → length cs ≤ p → UsedUp f l p
-  none-left m t ms at p cs left done e b =
-      let a = all-used m t l ms at left e in
+-- ---- all fills of a list
+
+module _ (f : ℕ) (small : f < 2) (l : List ℕ) (hb : IsBytes l) (short : length l ≤ 4096) where
+  abbrev Fillings : List (List ℕ) → ℕ → Writer → Type 0
+  Fillings cs at w = FillingList (writerWith f []) l zeroGrant cs at w
+
+  -- k fills finish k messages
+  finishes : (k at p : ℕ) (w : Writer) (cs : List (List ℕ)) → Going f l k at w → Fillings cs at w → length cs + k ≤ p → UsedUp f l p
+  finishes zero at p w cs g done b =
+      let a = going-none f l at w g in
       record {
         containers = cs;
-        writer = writerWith f t;
-        fills = subst (λ (i : ℕ). Fillings cs i t) (a .0) done;
-        owes-none = rw (tail-of f t) (a .1);
-        few = b;
+        writer = w;
+        fills = subst (λ (i : ℕ). Fillings cs i w) (a .0) done;
+        owes-none = a .1;
+        few = omega arith;
       }
-
-  finishes : (k : ℕ) (m t : List ℕ) (ms : List (List ℕ)) (at p : ℕ) (cs : List (List ℕ)) → Link m t → Left l at ms → Fillings cs at t
-      → unfinished m t ms ≤ k → length cs + k ≤ p → UsedUp f l p
-  unfolding owesAfter usedOf
-  finishes zero m t ms at p cs link left done e b = none-left m t ms at p cs left done (omega arith) (omega arith)
-  finishes (suc k) m t ms at p cs link left done e b =
-      ⊎-elim (λ (some : 0 < unfinished m t ms).
-      let here = left-here l at ms left in
-      let bytes : IsBytes (drop at l) = λ i. rw (getD-drop at l i 0) (hb (at + i)) in
-      let h = call-fills f zeroGrant m t (drop at l) ms small (omega arith) refl link here bytes (rw (length-drop at l) (omega arith)) in
-      let r = ran f zeroGrant (omega arith) refl m t (drop at l) ms link here in
-      let u = usedOf (formatOf f) zeroGrant t (drop at l) in
-      finishes k (carryAfter (formatOf f) 0 (plan (formatOf f) zeroGrant (drop at l) 12 0 (cursorOf t)) m) (owesAfter (formatOf f) zeroGrant t (drop at l)) (r .rest) (at + u) p
-      (cs ++ (filled (formatOf f) zeroGrant t (drop at l) ∷ [])) (r .link) (left-there l at u (r .rest) (left .within) (r .left)) (then u done h)
-      (omega (arith, fewer f m t (drop at l) ms link here some _ r)) (rw (length-append cs (filled (formatOf f) zeroGrant t (drop at l) ∷ [])) (omega arith)))
-      (λ (none : unfinished m t ms ≤ 0). none-left m t ms at p cs left done (omega arith) (omega arith))
-      (lt-or-le 0 (unfinished m t ms))
+  finishes (suc k) at p w cs g done b =
+      let h = going-fills f l (suc k) at w g small hb short in
+      let c = filled (formatOf f) zeroGrant (g .tail) (drop at l) in
+      let u = usedOf (formatOf f) zeroGrant (g .tail) (drop at l) in
+      let w′ = writerWith f (owesAfter (formatOf f) zeroGrant (g .tail) (drop at l)) in
+      let e : suc k - 1 ≡ k = omega arith in
+      finishes k (at + u) p w′ (cs ++ (c ∷ [])) (subst (λ (j : ℕ). Going f l j (at + u) w′) e (going-more f l (suc k) at w g c u w′ h)) (then u done h)
+      (rw (length-append cs (c ∷ [])) (omega arith))
 
 -- n messages from a new writer on, with grants of nothing: at most n containers
 pub within-n : (f : ℕ) (l : List ℕ) (ms : List (List ℕ)) → f < 2 → IsBytes l → length l ≤ 4096 → l ≡ recordsOf ms → AllMessages ms
     → UsedUp f l (length ms)
 within-n f l ms small hb short e a =
-    finishes f small l hb short (length ms) [] [] ms 0 (length ms) [] idle (record { within = omega arith; records = e; all = a }) none (omega arith) (omega arith)
+    finishes f small l hb short (length ms) 0 (length ms) (writerWith f []) [] (going-first f l ms (record { within = omega arith; records = e; all = a })) none (omega arith)
 
 pub within-2n : (f : ℕ) (l : List ℕ) (ms : List (List ℕ)) → f < 2 → IsBytes l → length l ≤ 4096 → l ≡ recordsOf ms → AllMessages ms
     → UsedUp f l (2 * length ms)
@@ -329,55 +369,16 @@ returned-within-n f l ms small hb short e a =
 
 -- ---- whatever the calls, n of them finish n messages
 
--- what is unfinished after fills of a list of messages ms
-record Going (f : ℕ) (l : List ℕ) (ms cs : List (List ℕ)) (at : ℕ) (w : Writer) : Type 0 where
-  carry : List ℕ
-  tail : List ℕ
-  rest : List (List ℕ)
-  is-writer : w ≡ writerWith f tail
-  link : Link carry tail
-  left : Left l at rest
-  few : unfinished carry tail rest ≤ length ms - length cs
-
--- a container leaves one less, or none
-one-less : (f : ℕ) (m t l : List ℕ) (ms : List (List ℕ)) (link : Link m t) (left : Left l 0 ms) (w : Cursor)
-    → (r : Ran (formatOf f) l 0 m t 0 ms (plan (formatOf f) zeroGrant l 12 0 (cursorOf t)) w)
-    → unfinished (carryAfter (formatOf f) 0 (plan (formatOf f) zeroGrant l 12 0 (cursorOf t)) m) (w .owes) (r .rest) ≤ unfinished m t ms - 1
-one-less f m t l ms link left w r =
-    ⊎-elim (λ (p : 0 < unfinished m t ms). omega (arith, fewer f m t l ms link left p w r))
-    (λ (p : unfinished m t ms ≤ 0). let e = simp length-append at (ap length (r .out)) in omega arith) (lt-or-le 0 (unfinished m t ms))
-
-going : (f : ℕ) (l : List ℕ) (ms : List (List ℕ)) → l ≡ recordsOf ms → AllMessages ms → {cs : List (List ℕ)} {at : ℕ} {w : Writer}
-    → FillingList (writerWith f []) l zeroGrant cs at w → Going f l ms cs at w
-unfolding owesAfter usedOf
-going f l ms e a none = record {
-  carry = [];
-  tail = [];
-  rest = ms;
-  is-writer = refl;
-  link = idle;
-  left = record { within = omega arith; records = e; all = a };
-  few = omega arith;
-}
-going f l ms e a (then {cs = cs} {at = at} {w₁ = w₁} {w₂ = w₂} {c = c} u before h) =
-    let g = going f l ms e a before in
-    let here = left-here l at (g .rest) (g .left) in
-    let k = is-filled f (g .tail) (drop at l) zeroGrant c u w₂ (rw (g .is-writer) at h) in
-    let r = ran f zeroGrant (k .low) (k .allowed) (g .carry) (g .tail) (drop at l) (g .rest) (g .link) here in
-    record {
-      carry = carryAfter (formatOf f) 0 (plan (formatOf f) zeroGrant (drop at l) 12 0 (cursorOf (g .tail))) (g .carry);
-      tail = owesAfter (formatOf f) zeroGrant (g .tail) (drop at l);
-      rest = r .rest;
-      is-writer = sym (k .next);
-      link = r .link;
-      left = left-there l at u (r .rest) (g .left .within) (subst (λ (i : ℕ). Left (drop at l) i (r .rest)) (k .used) (r .left));
-      few = rw (length-append cs (c ∷ [])) (omega (arith, g .few, one-less f (g .carry) (g .tail) (drop at l) (g .rest) (g .link) here _ r));
-    }
+going : (f : ℕ) (l : List ℕ) (ms : List (List ℕ)) → Left l 0 ms → {cs : List (List ℕ)} {at : ℕ} {w : Writer}
+    → FillingList (writerWith f []) l zeroGrant cs at w → Going f l (length ms - length cs) at w
+going f l ms left none = let e : length ms ≡ length ms - 0 = omega arith in subst (λ (k : ℕ). Going f l k 0 (writerWith f [])) e (going-first f l ms left)
+going f l ms left (then {cs = cs} {at = at} {w₁ = w₁} {w₂ = w₂} {c = c} u before h) =
+    let e : (length ms - length cs) - 1 ≡ length ms - length (cs ++ (c ∷ [])) = omega (arith, length-append cs (c ∷ [])) in
+    subst (λ (k : ℕ). Going f l k (at + u) w₂) e (going-more f l (length ms - length cs) at w₁ (going f l ms left before) c u w₂ h)
 
 -- after n fills with grants of nothing, n messages from a new writer on are used up and nothing is owed
 pub finished-by-n : (f : ℕ) (l : List ℕ) (ms : List (List ℕ)) → l ≡ recordsOf ms → AllMessages ms → {cs : List (List ℕ)} {at : ℕ} {w : Writer}
     → FillingList (writerWith f []) l zeroGrant cs at w → length ms ≤ length cs → (at ≡ length l) × (length (tailOf w) ≡ 0)
-finished-by-n f l ms e a {at = at} h b =
-    let g = going f l ms e a h in
-    let k = all-used (g .carry) (g .tail) l (g .rest) at (g .left) (omega (arith, g .few)) in
-    (k .0, rw (g .is-writer, tail-of f (g .tail)) (k .1))
+finished-by-n f l ms e a {cs = cs} {at = at} {w = w} h b =
+    let none-left : length ms - length cs ≡ 0 = omega arith in
+    going-none f l at w (subst (λ (k : ℕ). Going f l k at w) none-left (going f l ms (record { within = omega arith; records = e; all = a }) h))
