@@ -1,14 +1,14 @@
 -- Formats X and Y are lawful, by tests that are computed. Assumes nothing.
-use Prim.Native.Nat.{ℕ, zero, suc, _+_, _-_, _*_, _/_, _%_, _≤_, _<_}
-use mathlib.Core.Path.{_≡_, refl, sym, ap, _∙_, subst}
-use mathlib.Core.Bool.{Bool, true, false, _&&_, _||_, not}
+use Prim.Native.Nat.{ℕ, _+_, _%_, _<_}
+use mathlib.Core.Path.{_≡_, subst}
+use mathlib.Core.Bool.{Bool, true, false, _||_, not}
 use mathlib.Core.List.{List}
-use mathlib.Core.Logic.{_⊎_, inl, inr, ⊎-elim}
+use mathlib.Core.Logic.{inl, inr, ⊎-elim}
 use native.Mathlib.Omega.{arith}
 use lib.ListN.{length}
 use lib.Dec.{T, eqb, ltb, leb, leb→le, ltb→lt, eqb→eq, T-not}
 use borrow.Author.Tests.{eq-eqb}
-use Rattle.lists.proofs.Tests.{cases, or-cases, true-T}
+use Rattle.lists.proofs.Tests.{or-cases, true-T}
 use Rattle.lists.proofs.Tables.{below, below-at}
 use Rattle.lists.proofs.PartLaws.{length-part}
 use Rattle.lists.specs.Pick.{pick}

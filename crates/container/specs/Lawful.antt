@@ -1,7 +1,7 @@
--- What every format keeps: facts about its granules and its header bytes, and the tests that decide them.
+-- What every format keeps: facts about its granules, its header bytes and its link header.
 use Prim.Native.Nat.{ℕ, zero, suc, _+_, _%_, _≤_, _<_}
 use mathlib.Core.Path.{_≡_}
-use mathlib.Core.Bool.{Bool, true, false, _&&_, _||_, not}
+use mathlib.Core.Bool.{Bool, false, _&&_}
 use mathlib.Core.Logic.{_⊎_}
 use lib.Dec.{eqb, ltb, leb}
 use Rattle.lists.specs.Pick.{pick}
@@ -20,6 +20,7 @@ howMany (suc n) p = pick (p n) 1 0 + howMany n p
 abbrev pub owners : Format → ℕ → ℕ
 owners fm i = howMany 12 (λ g. inGranule fm g i) + (howMany 10 (λ k. eqb (fm .place k) i) + pick (fm .link i) 1 0)
 
+-- a format that keeps them
 pub record Lawful (fm : Format) : Type 0 where
   -- the granules lie inside the container, one behind the other
   pub inside : (g : ℕ) → g < 12 → start g + fm .size g ≤ 256

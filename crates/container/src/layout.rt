@@ -8,8 +8,8 @@ use crate::bytes::byte_at;
 pub fn locate_granule(g: u8) -> usize
     ensures { λ r. ⌜ r ≡ start g ⌝ }
 {
-    let third = g as usize;
-    64 * (third / 3) + 20 * (third % 3)
+    let granule = g as usize;
+    64 * (granule / 3) + 20 * (granule % 3)
 }
 
 // The bytes of granule g.

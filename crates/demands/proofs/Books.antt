@@ -1,14 +1,11 @@
 -- Demand 3: the bench's audit simulates the audit of its link, so its books close. Assumes nothing.
 use Prim.Native.Nat.{ℕ, zero, suc, _+_, _-_, _*_, _≤_, _<_}
-use mathlib.Core.Path.{_≡_, refl, sym, ap, ap₂, subst, _∙_}
+use mathlib.Core.Path.{_≡_, refl, sym, ap, subst, _∙_}
 use mathlib.Core.Bool.{Bool, true, false, _&&_}
 use mathlib.Core.List.{List, []}
-use mathlib.Core.Logic.{⊎-elim}
-use mathlib.Core.Option.{Option, none, some}
 use native.Mathlib.Omega.{arith}
 use native.Mathlib.Decide.{decLe}
 use lib.ListN.{getD, replicate}
-use lib.Dec.{eqb, ltb, leb}
 use borrow.Author.Tests.{lt-ltb, le-ltb}
 use Rattle.lists.specs.Pick.{pick}
 use Rattle.lists.proofs.ZeroLaws.{zeros-at, zeros-replicate}
@@ -17,7 +14,7 @@ use Rattle.cause.specs.Checks.{Pass, firstFault, whenSound}
 use Rattle.cause.specs.declared.Verdict.{Verdict}
 use Rattle.cause.specs.declared.Verdict.the-variants.{Sound, Faulty}
 use Rattle.message.specs.Charges.{charges}
-use Rattle.reader.specs.Reading.{carried, readerOk, readerWith, stateChecks, nextReader, records}
+use Rattle.reader.specs.Reading.{carried, readerOk, readerWith, nextReader, records}
 use Rattle.reader.specs.declared.reader.Reader.{Reader}
 use Rattle.ledger.specs.Pools.{receiverOk, messageChecks, allMessages, allGrants, chargedTo, paidTo, grantedTo}
 use Rattle.ledger.specs.Audit.{receiverOf, readerOf, heldOf, openOf, passes, configured, freshLedger, begun, finished, granted, auditChecks, nextLedger, answerOf, auditing, reported}
@@ -25,19 +22,16 @@ use Rattle.ledger.specs.Audit as audit
 use Rattle.ledger.specs.declared.receiver.Receiver.{Receiver}
 use Rattle.ledger.specs.declared.ledger.Ledger.{Ledger}
 use Rattle.ledger.proofs.ValidLaws.{ValidDirection, ledger-valid, valid-ledger}
-use Rattle.ledger.proofs.AcceptedLaws.{Accepted, accepted-by, accepted-sound, held-own, held-other, open-own, open-other, finished-covered, reader-own, reader-other, receivers-kept}
-use Rattle.history.specs.Trace.{Trace}
-use Rattle.history.specs.Link.{Direction, direction0, direction1, numberOf, directionOf, opposite, sameDirection, Link, Lawful}
-use Rattle.history.specs.Calls.{Call, Auditor}
+use Rattle.ledger.proofs.AcceptedLaws.{Accepted, accepted-by, accepted-sound, held-own, held-other, open-own, open-other, reader-own, reader-other, receivers-kept}
+use Rattle.history.specs.Link.{Direction, direction0, direction1, numberOf, directionOf, opposite, sameDirection, Link}
 use Rattle.history.specs.Audit.{fitsBelow, equalBelow, directionOk, creditsPaid, slotsTaken, entryOk, enter, auditEntry, linkAuditor}
 use Rattle.history.specs.Audit as link
-use Rattle.history.specs.Demand.{Closed}
 use Rattle.history.proofs.Below.{below-fits, fits-below, below-equal, equal-below}
 use Rattle.history.proofs.Calls.{Simulates}
 use Rattle.history.proofs.Demand.{books-close}
 use Rattle.demands.specs.Tap.{startsIn, endsIn, grantsOf, receiverFor, linkOf, accepting, auditorOf}
 use Rattle.demands.specs.Demand3.{Demand3}
-use Rattle.demands.proofs.TapLaws.{Reads, reads-by, by-reads, passes-sound, receiver-valid, lawful}
+use Rattle.demands.proofs.TapLaws.{reads-by, by-reads, passes-sound, receiver-valid, lawful}
 
 -- ---- directions and numbers
 number-below : (d : Direction) → numberOf d < 2

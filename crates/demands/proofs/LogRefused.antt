@@ -1,14 +1,13 @@
 -- A log that is refused by a reading or pool cause: the audit refuses the entry behind the accepted ones. Assumes nothing.
 use Prim.Native.Nat.{ℕ, zero, suc, _+_, _%_, _≤_}
-use mathlib.Core.Path.{_≡_, refl, sym, ap, subst, _∙_}
-use mathlib.Core.Bool.{Bool, true, false}
+use mathlib.Core.Path.{_≡_, refl, sym, subst, _∙_}
+use mathlib.Core.Bool.{true, false}
 use mathlib.Core.List.{List, [], _∷_}
 use mathlib.Core.Logic.{⊎-elim}
 use native.Mathlib.Omega.{arith}
 use lib.ListN.{length, take, drop, set, replicate}
 use lib.Dec.{ltb, eqb}
 use borrow.Author.Tests.{ltb-false, eqb-true, eqb-false}
-use Rattle.lists.specs.Pick.{pick}
 use Rattle.lists.proofs.Tests.{cases}
 use Rattle.lists.proofs.PickLaws.{pick-by}
 use Rattle.cause.specs.declared.Cause.{Cause}
@@ -23,7 +22,6 @@ use Rattle.ledger.specs.Calls as log
 use Rattle.ledger.specs.declared.ledger.Ledger.{Ledger}
 use Rattle.ledger.specs.declared.ledger.Answer.{Answer}
 use Rattle.ledger.specs.declared.ledger.Answer.the-variants as answer
-use Rattle.ledger.specs.declared.log.LogVerdict.{LogVerdict}
 use Rattle.ledger.specs.declared.log.LogVerdict.the-variants.{Accepted, Refused}
 use Rattle.ledger.proofs.SettingValid.{setting-configured}
 use Rattle.ledger.proofs.LogSteps.{entries-none, entries-limit, entries-over, entries-on}

@@ -1,7 +1,7 @@
 -- The bench's reader and pools are a lawful link: no message is lost, states stay valid, and nothing is counted past the last pool.
 -- Assumes nothing.
-use Prim.Native.Nat.{ℕ, zero, suc, _+_, _/_, _%_, _≤_, _<_}
-use mathlib.Core.Path.{_≡_, refl, sym, ap, _∙_}
+use Prim.Native.Nat.{ℕ, _+_, _%_, _≤_, _<_}
+use mathlib.Core.Path.{_≡_, refl}
 use mathlib.Core.Bool.{Bool, true, false, _&&_, _||_, not}
 use mathlib.Core.List.{List, [], _∷_, _++_}
 use mathlib.Core.Logic.{⊎-elim}
@@ -25,12 +25,12 @@ use Rattle.message.specs.declared.heads.Class.the-variants.{Unknown, Request, R
 use Rattle.reader.specs.Reading.{carried, readerOk, readerWith, stateChecks, judgeChecks, nextReader}
 use Rattle.reader.specs.declared.reader.Reader.{Reader}
 use Rattle.reader.proofs.CarryLaws.{with-valid, next-valid}
-use Rattle.ledger.specs.Pools.{receiverOk, capacitiesOk, paysReq, paysData, paysPush, hasPool, messageChecks, grantChecks, allMessages, allGrants, chargedTo, paidTo, grantedBy, grantedTo}
+use Rattle.ledger.specs.Pools.{receiverOk, capacitiesOk, paysReq, messageChecks, grantChecks, allMessages, allGrants, chargedTo, paidTo, grantedBy, grantedTo}
 use Rattle.ledger.specs.Audit.{passes, configured}
 use Rattle.ledger.specs.declared.receiver.Receiver.{Receiver}
 use Rattle.ledger.proofs.CarriedLaws.{paid-kept, next-passes}
 use Rattle.history.specs.Link.{Direction, direction0, direction1, opposite, Link, Lawful}
-use Rattle.demands.specs.Tap.{startsIn, endsIn, grantsOf, receiverFor, ruleChecks, linkOf}
+use Rattle.demands.specs.Tap.{startsIn, grantsOf, receiverFor, ruleChecks, linkOf}
 
 -- a verdict that passes is sound
 pub passes-sound : (v : Verdict) → passes v ≡ true → v ≡ Sound

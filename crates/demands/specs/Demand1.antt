@@ -1,5 +1,5 @@
--- Demand 1: a refusal changes no state and no byte of lent memory. That every input is answered, and that every call ends, is in the
--- contracts: no public entry has a `requires`.
+-- Demand 1: a refusal changes no state and no byte of lent memory; that every input is answered, and that every call ends, is in the
+-- contracts, since no public entry has a `requires`.
 use Prim.Native.Nat.{ℕ}
 use mathlib.Core.Path.{_≡_}
 use mathlib.Core.List.{List}

@@ -19,7 +19,7 @@ use Rattle.ledger.specs.declared.ledger.Ledger.{Ledger}
 use Rattle.ledger.specs.declared.ledger.Answer.{Answer}
 use Rattle.ledger.specs.declared.ledger.Answer.the-variants.{Accepted, Refused}
 use Rattle.history.specs.Link.{Direction, direction0, direction1, numberOf, opposite, Link}
-use Rattle.history.specs.Calls.{Call, Auditor}
+use Rattle.history.specs.Calls.{Auditor}
 
 -- the messages that start in a container, and those that end in it, as a reader in this state finds them
 abbrev pub startsIn : Reader → List ℕ → List (List ℕ)

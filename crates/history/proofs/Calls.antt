@@ -1,9 +1,9 @@
 -- Lists of calls of any audit whose ledger agrees with the entries that it accepted. Assumes nothing.
 use Prim.Native.Nat.{ℕ, zero, suc}
-use mathlib.Core.Path.{_≡_, refl, sym, _∙_}
+use mathlib.Core.Path.{_≡_, refl}
 use mathlib.Core.Logic.{_↔_}
 use mathlib.Core.Bool.{Bool, true, false}
-use mathlib.Core.Option.{Option, none, some}
+use mathlib.Core.Option.{some}
 use Rattle.lists.specs.Pick.{pick}
 use Rattle.history.specs.Trace.{Trace, start, _▷_}
 use Rattle.history.specs.Link.{Direction, direction0, direction1, numberOf, directionOf}

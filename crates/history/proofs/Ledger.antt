@@ -12,7 +12,6 @@ use Rattle.history.specs.History.{Entry, stateAfter, total}
 use Rattle.history.specs.Books.{containersOf, granted, begun, finished, Within, Books}
 use Rattle.history.specs.Audit.{fitsBelow, Ledger, directionOk, ledgerOk, creditsPaid, slotsTaken, entryOk, enter}
 use Rattle.history.proofs.Below.{below-fits, fits-below, equal-below}
-use Rattle.history.proofs.Order.{append-one-direction}
 use Rattle.history.proofs.Conservation.{state-valid, begun-or-carried}
 use Rattle.history.proofs.Eager.{books-read}
 use Rattle.history.proofs.OneMore.{WithinWith, within-needs, within-suffices}

@@ -1,13 +1,13 @@
 -- The test that all bytes are zero: along a list, at each byte, and by the sum of the bytes. Assumes nothing.
-use Prim.Native.Nat.{ℕ, zero, suc, _+_, _*_, _≤_, _<_}
+use Prim.Native.Nat.{ℕ, zero, suc, _+_, _<_}
 use mathlib.Core.Path.{_≡_, refl, sym, ap, _∙_}
-use mathlib.Core.Bool.{Bool, true, false, _&&_}
+use mathlib.Core.Bool.{true, _&&_}
 use mathlib.Core.List.{List, [], _∷_, _++_}
 use native.Mathlib.Omega.{arith}
 use native.Mathlib.Numerals.{add-one}
-use borrow.Author.Tests.{eq-eqb, ne-eqb, eqb-true}
-use lib.ListN.{length, getD, take, drop, replicate, drop-of-length-le, take-append-drop}
-use lib.Seq.{drop-cons, take-suc}
+use borrow.Author.Tests.{eq-eqb, eqb-true}
+use lib.ListN.{length, getD, take, drop, replicate, take-append-drop}
+use lib.Seq.{take-suc}
 use lib.Dec.{eqb}
 use Rattle.lists.specs.Parts.{zeros, sum}
 use Rattle.lists.proofs.Tests.{and-left, and-right, and-assoc, same-test}

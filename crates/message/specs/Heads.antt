@@ -1,4 +1,4 @@
--- Message heads (document 01): what type and op select, and which heads are right. A message is the list of its bytes.
+-- Message heads (document 01): what type and op select, and which heads are right; a message is the list of its bytes.
 use Prim.Native.Nat.{ℕ, _/_, _%_}
 use mathlib.Core.Bool.{Bool, _&&_, _||_, not}
 use mathlib.Core.List.{List, [], _∷_}

@@ -38,7 +38,7 @@ fn write_container(writer: Writer, list: &[u8]) -> Step
     step
 }
 
-// Writes containers until the list is used up and no tail is owed. Only the first fill can be refused.
+// Writes containers until the list is used up and no tail is owed; only the first fill can be refused.
 fn write_containers(fresh: Writer, list: &[u8]) -> Verdict
     requires { ⌜ (fresh ≡ writerWith (fresh .format) []) × (fresh .format < 2) ⌝ }
     ensures { λ r. ⌜ r ≡ fillFault (writerWith (fresh .format) []) (now (list .entry)) zeroGrant 256 ⌝ }

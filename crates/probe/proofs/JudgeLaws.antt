@@ -8,7 +8,6 @@ use Rattle.cause.specs.declared.Cause.{Cause}
 use Rattle.cause.proofs.CauseLaws.{number-most}
 use Rattle.container.specs.declared.grant.Grant.{Grant}
 use Rattle.reader.specs.Reading.{readerWith, opened, judging}
-use Rattle.reader.specs.declared.reader.Reader.{Reader}
 use Rattle.reader.specs.declared.reader.Opened.{Opened}
 use Rattle.reader.specs.declared.reader.Judged.{Judged}
 use Rattle.reader.specs.declared.reader.Judgement.the-variants.{Accepted, Refused}

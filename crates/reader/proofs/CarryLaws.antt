@@ -1,8 +1,8 @@
 -- What a reading leaves: the room that its records take, and a carry that is valid again. Assumes nothing.
 use Prim.Native.Nat.{ℕ, zero, suc, _+_, _-_, _*_, _%_, _≤_, _<_}
-use mathlib.Core.Path.{_≡_, refl, sym, ap, _∙_}
+use mathlib.Core.Path.{_≡_, refl, ap, _∙_}
 use mathlib.Core.Bool.{Bool, true, false, _&&_, _||_}
-use mathlib.Core.List.{List, [], _∷_, _++_, append-assoc}
+use mathlib.Core.List.{List, [], _∷_, _++_}
 use mathlib.Core.Logic.{_⊎_, inl, inr, ⊎-elim}
 use native.Mathlib.Omega.{arith}
 use lib.ListN.{length, take, drop, replicate, length-append, length-take}
@@ -23,10 +23,9 @@ use Rattle.message.specs.Heads.{msgSize, wellHeaded}
 use Rattle.message.proofs.HeadLaws.{size-most, size-append, headed-append}
 use Rattle.message.specs.Places.{placed}
 use Rattle.message.proofs.PlaceLaws.{placed-fits}
-use Rattle.record.specs.Number.{number}
 use Rattle.record.proofs.NumberLaws.{number-small}
 use Rattle.record.proofs.RecordLaws.{records-append}
-use Rattle.record.specs.Records.{recordOf, recordsOf}
+use Rattle.record.specs.Records.{recordsOf}
 use Rattle.reader.specs.Cells.{Cell, owed, cellAt, message, whole, after, ended, cells, carryAfter, endings}
 use Rattle.reader.specs.Checking.{cellChecks, granuleChecks, groupChecks, lastChecks, containerChecks}
 use Rattle.reader.specs.Keeps.{progress, cellOf, endedTo, KeepsGranule}

@@ -1,7 +1,7 @@
 -- The reader behind an accepted container, as the code makes it. Assumes nothing.
-use Prim.Native.Nat.{ℕ, _-_, _≤_, _<_}
-use mathlib.Core.Path.{_≡_, refl, sym, ap, _∙_, subst}
-use mathlib.Core.Bool.{Bool, true, false}
+use Prim.Native.Nat.{ℕ, _-_, _≤_}
+use mathlib.Core.Path.{_≡_, sym, ap, _∙_, subst}
+use mathlib.Core.Bool.{true, false}
 use mathlib.Core.List.{List}
 use mathlib.Core.Logic.{⊎-elim}
 use native.Mathlib.Omega.{arith}
@@ -19,14 +19,14 @@ use Rattle.record.specs.Records.{recordsOf}
 use Rattle.reader.specs.Cells.{cells, carryAfter, endings}
 use Rattle.reader.specs.Checking.{granuleChecks}
 use Rattle.reader.specs.Keeps.{progress}
-use Rattle.reader.specs.Reading.{readerOk, carryOk, carried, readerWith, stateChecks, nextReader, records}
+use Rattle.reader.specs.Reading.{readerOk, carryOk, carried, stateChecks, nextReader, records}
 use Rattle.reader.specs.Tracking.{trackOf, trackAt, inProgress, Begun, Looked}
 use Rattle.reader.specs.declared.reader.Reader.{Reader}
 use Rattle.reader.specs.declared.track.Track.{Track}
 use Rattle.reader.specs.declared.scan.Scan.{Scan}
 use Rattle.reader.proofs.CarryLaws.{reader-ok, carry-valid, granules-pass}
 use Rattle.reader.proofs.ProgressLaws.{carry-of}
-use Rattle.reader.proofs.TrackLaws.{Follows, follows, Firm, firm, carry-firm, gathered-progress}
+use Rattle.reader.proofs.TrackLaws.{Follows, follows, firm, carry-firm, gathered-progress}
 
 -- the carry of a reader as the code takes it
 pub carry-part : (s : Reader) → take (s .len - 0) (drop 0 (s .carry)) ≡ carried s

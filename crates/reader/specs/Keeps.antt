@@ -1,8 +1,7 @@
 -- The packing rules as statements about a container (003, section 3.3.1, as document 01 completes them).
 use Prim.Native.Nat.{ℕ, zero, suc, _+_, _*_, _≤_, _<_}
 use mathlib.Core.Path.{_≡_}
-use mathlib.Core.Bool.{Bool, true}
-use mathlib.Core.Logic.{_⊎_}
+use mathlib.Core.Bool.{true}
 use mathlib.Core.List.{List, [], _++_}
 use lib.ListN.{getD}
 use lib.Dec.{T}
@@ -48,6 +47,7 @@ pub record KeepsGroup (a b c : Cell) : Type 0 where
 abbrev pub NoCounts : Format → List ℕ → Type 0
 NoCounts fm c = (headerGrant fm c .req ≡ 0) × (headerGrant fm c .rsp ≡ 0) × (headerGrant fm c .snp ≡ 0) × (headerGrant fm c .dat ≡ 0)
 
+-- a container that keeps the rules, with m carried in
 pub record Keeps (fm : Format) (m c : List ℕ) : Type 0 where
   -- reserved bits are zero: the high halves of P1 and P2, and P7 to P9
   pub reserved : (header fm c 1 < 16) × (header fm c 2 < 16) × (header fm c 7 ≡ 0) × (header fm c 8 ≡ 0) × (header fm c 9 ≡ 0)

@@ -2,7 +2,7 @@
 use Prim.Native.Nat.{ℕ, _%_}
 use mathlib.Core.Bool.{Bool, _&&_, _||_}
 use mathlib.Core.List.{List, [], _∷_, _++_}
-use lib.ListN.{length, take, drop, replicate}
+use lib.ListN.{length, take, drop}
 use lib.Dec.{eqb, ltb, leb}
 use Rattle.lists.specs.Pick.{pick}
 use Rattle.lists.specs.Parts.{zeros, pad, put}
@@ -10,12 +10,12 @@ use Rattle.cause.specs.Checks.{Check, check, firstFault, whenSound}
 use Rattle.cause.specs.declared.Verdict.{Verdict}
 use Rattle.cause.specs.declared.Verdict.the-variants.{Sound, Faulty}
 use Rattle.cause.specs.declared.Cause.the-variants.{ContainerLength, RoomTooSmall, InvalidState}
-use Rattle.container.specs.Layout.{Format, formatOf, msgStart}
+use Rattle.container.specs.Layout.{formatOf, msgStart}
 use Rattle.container.specs.Grants.{headerGrant}
 use Rattle.container.specs.declared.grant.Grant.{Grant}
 use Rattle.message.specs.Heads.{msgSize, wellHeaded}
 use Rattle.record.specs.Records.{recordsOf}
-use Rattle.reader.specs.Cells.{Cell, cells, carryAfter, endings}
+use Rattle.reader.specs.Cells.{cells, carryAfter, endings}
 use Rattle.reader.specs.Checking.{containerChecks}
 use Rattle.reader.specs.declared.reader.Reader.{Reader}
 use Rattle.reader.specs.declared.reader.Answer.{Answer}

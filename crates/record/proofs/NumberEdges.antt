@@ -1,8 +1,7 @@
 -- The edges of what is a number, by computation. Assumes nothing.
-use Prim.Native.Nat.{ℕ}
 use mathlib.Core.Path.{_≡_, refl}
-use mathlib.Core.List.{List, [], _∷_}
-use Rattle.record.specs.Number.{number, readNumber}
+use mathlib.Core.List.{[], _∷_}
+use Rattle.record.specs.Number.{readNumber}
 use Rattle.record.specs.declared.number.Number.the-variants.{Broken, Value}
 
 -- the largest number, one over it, a sixth group, and a number that the list cuts short

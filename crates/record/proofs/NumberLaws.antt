@@ -1,15 +1,15 @@
 -- Reading a number and writing it are inverse to each other, and what is no number is broken. Assumes nothing.
 use Prim.Native.Nat.{ℕ, zero, suc, _+_, _-_, _*_, _/_, _%_, _^_, _≤_, _<_}
-use mathlib.Core.Path.{_≡_, refl, sym, ap, _∙_}
-use mathlib.Core.Bool.{Bool, true, false}
+use mathlib.Core.Path.{_≡_, refl, ap, _∙_}
+use mathlib.Core.Bool.{true, false}
 use mathlib.Core.List.{List, [], _∷_, _++_}
-use mathlib.Core.Logic.{_⊎_, inl, inr, ⊎-elim}
+use mathlib.Core.Logic.{⊎-elim}
 use native.Mathlib.Omega.{arith}
-use native.Mathlib.Nat.{pow-suc, not-suc-le-zero}
+use native.Mathlib.Nat.{pow-suc}
 use native.Mathlib.Numerals.{add-one, sub-one}
 use lib.ListN.{length, getD, drop, length-append}
 use lib.Dec.{eqb, ltb, leb}
-use borrow.Author.Tests.{lt-ltb, le-ltb, ltb-true, ltb-false, le-leb, leb-true, eqb-true, eqb-false, ne-eqb}
+use borrow.Author.Tests.{lt-ltb, le-ltb, ltb-true, ltb-false, le-leb, leb-true, eqb-false, ne-eqb}
 use Rattle.lists.specs.Pick.{pick}
 use Rattle.lists.specs.Parts.{IsBytes}
 use Rattle.lists.proofs.Tests.{cases}
@@ -101,9 +101,6 @@ more-stands : (k b : ℕ) (l : List ℕ) → 128 ≤ b → b < 256 → (s : Numb
 more-stands k b l lo hi Broken ih n u e = let z : _≡_ {A = ℕ} 0 1 = cc in absurd (omega arith)
 more-stands k b l lo hi (Value v q) ih n u e = ⊎-elim longer other (cases (eqb v 0))
   where
-    w : ℕ
-    w = b % 128 + 128 * v
-
     longer : eqb v 0 ≡ true → Stands (suc k) (b ∷ l) n u
     longer t = let f : Broken ≡ Value n u = rw t at e in let z : _≡_ {A = ℕ} 0 1 = cc in absurd (omega arith)
 

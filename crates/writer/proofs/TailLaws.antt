@@ -1,9 +1,9 @@
 -- A tail copied with zeros behind it. Assumes nothing.
-use Prim.Native.Nat.{ℕ, zero, suc, _+_, _-_, _≤_, _<_}
+use Prim.Native.Nat.{ℕ, _+_, _≤_, _<_}
 use mathlib.Core.Path.{_≡_, refl, sym, ap, _∙_}
-use mathlib.Core.List.{List, [], _∷_, _++_}
+use mathlib.Core.List.{List}
 use native.Mathlib.Omega.{arith}
-use lib.ListN.{length, getD, set, take, drop, replicate, length-replicate}
+use lib.ListN.{length, getD, set, replicate, length-replicate}
 use Rattle.lists.specs.Parts.{pad}
 use Rattle.lists.proofs.PartLaws.{length-pad, getD-pad}
 use Rattle.lists.proofs.Fill.{grown, grown-more, grown-pad}

@@ -1,6 +1,6 @@
 -- `record::number::+read_groups` meets its contract.
 use Prim.Native.Nat.{ℕ, _<_, _-_}
-use mathlib.Core.Path.{_≡_, _∙_}
+use mathlib.Core.Path.{_∙_}
 use mathlib.Core.List.{List}
 use native.Mathlib.Omega.{arith}
 use borrow.Author.Needs.{needs}

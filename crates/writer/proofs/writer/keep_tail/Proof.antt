@@ -1,5 +1,4 @@
 -- `writer::writer::keep_tail` meets its contract.
-use native.Mathlib.Omega.{arith}
 use Rattle.writer.proofs.AnswerLaws.{tail-none, tail-old, tail-list, within-old, within-list}
 use borrow.Author.Needs.{needs}
 use Rattle.writer.proofs.writer.keep_tail.Statement.{statement}
