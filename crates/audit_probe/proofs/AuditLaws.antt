@@ -1,15 +1,13 @@
 -- The run from the ledger of numbers, and its numbers. Assumes nothing.
 use Prim.Native.Nat.{ℕ, _+_, _*_}
-use mathlib.Core.Path.{_≡_, refl, sym, ap, _∙_}
+use mathlib.Core.Path.{_≡_, ap, _∙_}
 use mathlib.Core.List.{List}
-use Rattle.cause.specs.declared.Cause.{Cause}
 use Rattle.ledger.specs.Audit.{freshLedger, opening, reported}
 use Rattle.ledger.specs.Run.{runOver}
 use Rattle.ledger.specs.declared.receiver.Receiver.{Receiver}
 use Rattle.ledger.specs.declared.ledger.Ledger.{Ledger}
 use Rattle.ledger.specs.declared.ledger.Opened.{Opened}
 use Rattle.ledger.specs.declared.ledger.Report.{Report}
-use Rattle.ledger.specs.declared.entries.Run.{Run}
 use Rattle.audit_probe.specs.Audit.{ledgerFrom, reportNumber, runFrom}
 
 pub run-from : (l e : List ℕ) (s : Ledger) → s ≡ ledgerFrom l → runOver s e ≡ runFrom l e

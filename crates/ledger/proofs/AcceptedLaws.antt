@@ -1,13 +1,13 @@
 -- What an accepted entry has passed, and what it does to the books. Assumes nothing.
 use Prim.Native.Nat.{ℕ, zero, suc, _+_, _-_, _*_, _≤_, _<_}
 use mathlib.Core.Path.{_≡_, refl, sym, ap, _∙_}
-use mathlib.Core.Bool.{true, false, _&&_}
+use mathlib.Core.Bool.{true, false}
 use mathlib.Core.List.{List, _++_}
 use native.Mathlib.Omega.{arith}
 use native.Mathlib.Nat.{zero-add}
 use lib.ListN.{length, getD, List·getD-append}
 use lib.Seq.{getD-append-add}
-use lib.Dec.{eqb, ltb, leb}
+use lib.Dec.{eqb, ltb}
 use borrow.Author.Tests.{eqb-true, ltb-true, leb-true, eq-eqb, ne-eqb, lt-ltb, le-leb}
 use Rattle.lists.proofs.Tests.{and-left, and-right, and-both}
 use Rattle.cause.specs.Checks.{Pass, firstFault}
@@ -17,10 +17,9 @@ use Rattle.message.specs.Charges.{charges}
 use Rattle.reader.specs.Reading.{readerOk, carried, stateChecks, judgeChecks, nextReader}
 use Rattle.reader.specs.declared.reader.Reader.{Reader}
 use Rattle.reader.proofs.CarryLaws.{next-valid}
-use Rattle.ledger.specs.Pools.{receiverOk, messageChecks, allMessages, allGrants, chargedTo, paidTo, grantedTo}
-use Rattle.ledger.specs.Audit.{receiverOf, readerOf, heldOf, openOf, passes, ledgerOk, opposite, cellsOf, begun, finished, granted, heldChecks, roomChecks, auditChecks, row, table, heldAfter, openAfter, nextLedger}
+use Rattle.ledger.specs.Pools.{messageChecks, allMessages, allGrants, chargedTo, paidTo, grantedTo}
+use Rattle.ledger.specs.Audit.{receiverOf, readerOf, heldOf, openOf, passes, ledgerOk, opposite, begun, finished, granted, heldChecks, roomChecks, auditChecks, row, table, heldAfter, openAfter, nextLedger}
 use Rattle.ledger.specs.declared.ledger.Ledger.{Ledger}
-use Rattle.ledger.specs.declared.receiver.Receiver.{Receiver}
 use Rattle.container.specs.declared.grant.Grant.{Grant}
 use Rattle.ledger.proofs.RowLaws.{row-at, length-row}
 use Rattle.ledger.proofs.ValidLaws.{ValidDirection, ledger-valid, valid-ledger}

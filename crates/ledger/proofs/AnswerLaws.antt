@@ -22,11 +22,7 @@ refused-verdict Sound k p e = let z : _≡_ {A = ℕ} 0 1 = cc in absurd (omega 
 refused-verdict (Faulty a b) k p e = cc
 
 module _ (s : Ledger) (d : ℕ) (c : List ℕ) where
-  -- an accepted entry leaves the next ledger, which is valid
-  pub accepted-next : auditing s d c .answer ≡ Accepted → auditing s d c .ledger ≡ nextLedger s d c
-  unfolding auditing
-  accepted-next e = ap (λ (v : Verdict). whenSound v (nextLedger s d c) s) (accepted-verdict (firstFault (auditChecks s d c)) e)
-
+  -- an accepted entry leaves a valid ledger
   pub accepted-valid : auditing s d c .answer ≡ Accepted → ledgerOk (auditing s d c .ledger) ≡ true
   unfolding auditing
   accepted-valid e =

@@ -5,7 +5,7 @@ use mathlib.Core.Bool.{true, false}
 use mathlib.Core.List.{List}
 use native.Mathlib.Omega.{arith}
 use lib.ListN.{length, getD, take, drop, length-take, length-drop}
-use lib.Dec.{leb, ltb}
+use lib.Dec.{ltb}
 use borrow.Author.Tests.{le-leb, lt-leb, le-ltb}
 use Rattle.lists.proofs.Tests.{and-false}
 use Rattle.cause.specs.declared.Cause.{Cause}
@@ -14,7 +14,6 @@ use Rattle.ledger.specs.Audit.{ledgerOk, auditing, auditChecks}
 use Rattle.ledger.specs.Run.{directionAt, containerAt, running, runOver}
 use Rattle.ledger.specs.declared.ledger.Ledger.{Ledger}
 use Rattle.ledger.specs.declared.ledger.Step.{Step}
-use Rattle.ledger.specs.declared.ledger.Answer.{Answer}
 use Rattle.ledger.specs.declared.ledger.Answer.the-variants.{Accepted, Refused}
 use Rattle.ledger.specs.declared.entries.Run.{Run}
 use Rattle.ledger.proofs.AnswerLaws.{refused-same, accepted-valid}

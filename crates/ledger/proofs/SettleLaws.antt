@@ -1,33 +1,27 @@
 -- The audit of an entry that reads and whose pools exist, by the rows of what it began and granted. Assumes nothing.
 use Prim.Native.Nat.{ℕ, zero, suc, _+_, _-_, _*_, _≤_, _<_}
 use mathlib.Core.Path.{_≡_, refl, sym, ap, ap₂, subst, _∙_}
-use mathlib.Core.Bool.{Bool, true, false, _&&_}
-use mathlib.Core.List.{List, [], _∷_, _++_}
+use mathlib.Core.Bool.{true, false}
+use mathlib.Core.List.{List, [], _∷_, _++_, append-nil}
 use mathlib.Core.Logic.{⊎-elim}
 use native.Mathlib.Omega.{arith}
-use native.Mathlib.Nat.{zero-add}
-use lib.ListN.{length, getD, take, drop}
+use lib.ListN.{length, getD, drop}
 use lib.Seq.{getD-take, getD-drop}
-use lib.Dec.{eqb, ltb, leb}
+use lib.Dec.{eqb, leb}
 use borrow.Author.Tests.{eqb-true, eq-eqb, lt-ltb}
-use Rattle.lists.specs.Pick.{pick}
-use Rattle.lists.proofs.Tests.{cases, and-both}
-use Rattle.lists.proofs.PartLaws.{append-nil}
-use Rattle.cause.specs.Checks.{Check, check, Pass, firstFault, orElse, whenSound}
+use Rattle.lists.proofs.Tests.{cases}
+use Rattle.cause.specs.Checks.{Check, check, Pass, firstFault, orElse}
 use Rattle.cause.specs.declared.Verdict.{Verdict}
 use Rattle.cause.specs.declared.Verdict.the-variants.{Sound, Faulty}
-use Rattle.cause.specs.declared.Cause.{Cause}
-use Rattle.cause.specs.declared.Cause.the-variants.{BegunOverGranted, GrantedOverCapacity}
+use Rattle.cause.specs.declared.Cause.the-variants.{BegunOverGranted}
 use Rattle.cause.proofs.CheckLaws.{pass-sound, first-append}
-use Rattle.container.specs.declared.grant.Grant.{Grant}
 use Rattle.message.specs.Charges.{charges}
 use Rattle.reader.specs.Reading.{carried, stateChecks, nextReader}
 use Rattle.reader.specs.declared.reader.Reader.{Reader}
 use Rattle.ledger.specs.Pools.{allMessages, allGrants, chargedTo, paidTo, grantedTo}
-use Rattle.ledger.specs.Audit.{receiverOf, readerOf, heldOf, openOf, ledgerOk, opposite, begun, finished, granted, heldChecks, roomChecks, auditChecks, row, table, heldAfter, openAfter, nextLedger, answerOf, auditing}
+use Rattle.ledger.specs.Audit.{receiverOf, readerOf, ledgerOk, opposite, begun, granted, heldChecks, roomChecks, auditChecks, row, table, heldAfter, openAfter, nextLedger, answerOf, auditing}
 use Rattle.ledger.specs.Counting.{shortChecks, overChecks, nested, flattened, entryOf, rows, settledHeld, settledOpen, entered, bookChecks, settling}
 use Rattle.ledger.specs.declared.ledger.Ledger.{Ledger}
-use Rattle.ledger.specs.declared.ledger.Step.{Step}
 use Rattle.ledger.proofs.RowLaws.{row-at, row-equal}
 use Rattle.ledger.proofs.AcceptedLaws.{Accepted, accepted-by, open-carried, open-next}
 

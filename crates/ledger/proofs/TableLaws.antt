@@ -1,7 +1,7 @@
 -- The shape of two rows of fourteen, and their flat list element by element. Assumes nothing.
 use Prim.Native.Nat.{ℕ, zero, suc, _+_, _-_, _/_, _%_, _≤_, _<_}
 use mathlib.Core.Path.{_≡_, refl, sym, ap, _∙_}
-use mathlib.Core.List.{List, [], _∷_, _++_}
+use mathlib.Core.List.{List, [], _∷_, _++_, append-nil}
 use mathlib.Core.Logic.{⊎-elim}
 use native.Mathlib.Nat.{not-suc-le-zero, le-of-suc-le-suc}
 use native.Mathlib.Omega.{arith}
@@ -15,7 +15,6 @@ use denote.Plain.{UInt}
 use denote.Laws.{Is}
 use denote.Shadow.{shadow}
 use Rattle.lists.proofs.Order.{lt-or-le}
-use Rattle.lists.proofs.PartLaws.{append-nil}
 use Rattle.ledger.specs.Counting.{flattened, entryOf}
 
 -- two rows of fourteen

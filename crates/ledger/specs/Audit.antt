@@ -1,6 +1,6 @@
 -- The audit (document 01, "Pools and the audit" and "Causes and places"): the ledger, its validity, and the audit of an entry.
-use Prim.Native.Nat.{ℕ, zero, suc, _+_, _-_, _*_, _/_, _%_}
-use mathlib.Core.Bool.{Bool, true, false, _&&_, _||_}
+use Prim.Native.Nat.{ℕ, zero, suc, _+_, _-_, _*_}
+use mathlib.Core.Bool.{Bool, true, false, _&&_}
 use mathlib.Core.List.{List, [], _∷_, _++_}
 use lib.ListN.{length, getD, replicate}
 use lib.Dec.{eqb, ltb, leb}
@@ -8,7 +8,7 @@ use Rattle.lists.specs.Pick.{pick}
 use Rattle.cause.specs.Checks.{Check, check, firstFault, whenSound}
 use Rattle.cause.specs.declared.Verdict.{Verdict}
 use Rattle.cause.specs.declared.Verdict.the-variants.{Sound, Faulty}
-use Rattle.cause.specs.declared.Cause.the-variants.{InvalidState, ContainerLength, MissingPool, BegunOverGranted, GrantedOverCapacity}
+use Rattle.cause.specs.declared.Cause.the-variants.{InvalidState, ContainerLength, BegunOverGranted, GrantedOverCapacity}
 use Rattle.container.specs.Layout.{formatOf}
 use Rattle.container.specs.Grants.{headerGrant}
 use Rattle.container.specs.declared.grant.Grant.{Grant}
@@ -16,7 +16,7 @@ use Rattle.message.specs.Charges.{charges}
 use Rattle.reader.specs.Cells.{Cell, cells, endings, startings}
 use Rattle.reader.specs.Reading.{readerOk, carried, stateChecks, nextReader}
 use Rattle.reader.specs.declared.reader.Reader.{Reader}
-use Rattle.ledger.specs.Pools.{hasPool, receiverOk, messageChecks, allMessages, allGrants, chargedTo, paidTo, grantedTo, grantsIn}
+use Rattle.ledger.specs.Pools.{receiverOk, messageChecks, allMessages, allGrants, chargedTo, paidTo, grantedTo, grantsIn}
 use Rattle.ledger.specs.declared.receiver.Receiver.{Receiver}
 use Rattle.ledger.specs.declared.ledger.Ledger.{Ledger}
 use Rattle.ledger.specs.declared.ledger.Answer.{Answer}

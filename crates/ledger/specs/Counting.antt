@@ -1,10 +1,10 @@
 -- What the code keeps of an entry: counts by pool, and the checks of pools by rows of counts.
-use Prim.Native.Nat.{ℕ, zero, suc, _+_, _-_, _%_, _≤_, _<_}
+use Prim.Native.Nat.{ℕ, zero, suc, _+_, _-_, _%_, _≤_}
 use mathlib.Core.Path.{_≡_}
-use mathlib.Core.Bool.{Bool, true, _&&_, _||_}
+use mathlib.Core.Bool.{Bool, true, _&&_}
 use mathlib.Core.List.{List, [], _∷_, _++_}
 use lib.ListN.{getD, take, drop}
-use lib.Dec.{eqb, ltb, leb}
+use lib.Dec.{eqb, leb}
 use Rattle.lists.specs.Pick.{pick}
 use Rattle.cause.specs.Checks.{Check, check, firstFault, whenSound}
 use Rattle.cause.specs.declared.Verdict.the-variants.{Sound}
@@ -14,7 +14,6 @@ use Rattle.container.specs.Grants.{grantOf}
 use Rattle.container.specs.declared.grant.Grant.{Grant}
 use Rattle.message.specs.Heads.{miscBy, crdtGrant}
 use Rattle.message.specs.Charges.{chargesBy, listed, charges}
-use Rattle.message.specs.declared.charge.Charge.{Charge}
 use Rattle.reader.specs.Reading.{carried}
 use Rattle.reader.specs.declared.reader.Reader.{Reader}
 use Rattle.ledger.specs.Pools.{paymentChecks, messageChecks, chargedTo, grantChecks, grantedBy}

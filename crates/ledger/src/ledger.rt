@@ -10,7 +10,7 @@ ghost use Rattle.container.specs.Layout.{formatOf, msgStart};
 ghost use Rattle.container.specs.Grants.{headerGrant};
 ghost use Rattle.reader.specs.Reading.{judgeChecks, nextReader, carried};
 ghost use Rattle.ledger.specs.Audit.{receiverOf, readerOf, directionOk, ledgerOk, configured, opening, auditing, reported};
-ghost use Rattle.ledger.specs.Counting.{pooled, resting, settling, entered, flattened};
+ghost use Rattle.ledger.specs.Counting.{pooled, resting, settling, entered};
 use crate::begun::tally_begun;
 use crate::books::judge_begun;
 use crate::books::judge_granted;

@@ -1,7 +1,7 @@
 -- Parts of a list, as code takes and lends them, and a part put in place. Assumes nothing.
 use Prim.Native.Nat.{ℕ, zero, suc, _+_, _-_, _≤_, _<_}
 use mathlib.Core.Path.{_≡_, refl, sym, ap, _∙_, subst}
-use mathlib.Core.List.{List, [], _∷_, _++_}
+use mathlib.Core.List.{List, [], _∷_, _++_, append-nil}
 use mathlib.Core.Logic.{⊎-elim}
 use native.Mathlib.Omega.{arith}
 use native.Mathlib.Nat.{zero-add}
@@ -10,10 +10,6 @@ use lib.ListN.{getD, length, take, drop, set, replicate, length-append, length-d
 use lib.Seq.{take-all, take-at, drop-at, length-take-le, drop-drop, getD-take, getD-drop, ext-getD, getD-append-add, getD-set-other, take-append-le, drop-append-le}
 use Rattle.lists.specs.Parts.{part, put, pad, IsBytes}
 use Rattle.lists.proofs.Order.{lt-or-le}
-
-pub append-nil : (l : List ℕ) → l ++ [] ≡ l
-append-nil [] = refl
-append-nil (x ∷ l) = ap (λ (r : List ℕ). x ∷ r) (append-nil l)
 
 pub length-zero : (l : List ℕ) → length l ≡ 0 → l ≡ []
 length-zero [] e = refl

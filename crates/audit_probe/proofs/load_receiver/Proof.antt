@@ -1,9 +1,8 @@
 -- `audit_probe::load_receiver` meets its contract.
 use Prim.Native.Nat.{ℕ, _+_, _-_, _≤_}
-use mathlib.Core.Path.{_≡_, refl, sym, ap, _∙_}
-use mathlib.Core.List.{List}
+use mathlib.Core.Path.{_≡_, refl, sym, _∙_}
 use native.Mathlib.Omega.{arith}
-use lib.ListN.{length, getD, replicate}
+use lib.ListN.{getD, replicate}
 use borrow.Author.Needs.{needs}
 use Rattle.lists.proofs.Fill.{grown, grown-more, grown-all}
 use Rattle.ledger.specs.Audit.{row}
