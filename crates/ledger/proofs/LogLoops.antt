@@ -4,7 +4,7 @@ use mathlib.Core.Path.{_≡_, refl, sym, ap, subst, _∙_}
 use mathlib.Core.Bool.{Bool, true, false}
 use mathlib.Core.List.{List}
 use native.Mathlib.Omega.{arith}
-use lib.ListN.{length, take, drop, length-drop}
+use lib.ListN.{length, take, drop, length-take, length-drop}
 use lib.Dec.{leb}
 use borrow.Author.Tests.{lt-ltb, le-ltb, lt-leb, le-leb}
 use Rattle.lists.specs.Pick.{pick}
@@ -14,7 +14,8 @@ use Rattle.cause.specs.declared.Cause.the-variants.{BrokenRecord}
 use Rattle.record.specs.Number.{readNumber}
 use Rattle.record.specs.declared.number.Number.{Number}
 use Rattle.record.specs.declared.number.Number.the-variants.{Broken, Value}
-use Rattle.ledger.specs.Audit.{auditing}
+use Rattle.ledger.specs.Audit.{ledgerOk, auditing}
+use Rattle.ledger.specs.Counting.{resting}
 use Rattle.ledger.specs.Log.{settingOf, Next, over, onward, nextOf, framed, judged, judgedAt}
 use Rattle.ledger.specs.Stream.{most, ready, closing, stoppedAt, stepped, readFrom, enteredBy, startBy, beginning, Running}
 use Rattle.ledger.specs.declared.ledger.Ledger.{Ledger}
@@ -28,6 +29,7 @@ use Rattle.ledger.specs.declared.log.LogReader.{LogReader}
 use Rattle.ledger.specs.declared.log.Consumed.{Consumed}
 use Rattle.ledger.specs.declared.log.Entered.{Entered}
 use Rattle.ledger.proofs.NumberTakes.{Takes, takes-number}
+use Rattle.ledger.proofs.IdleTheorem.{idle-accepted}
 use Rattle.ledger.proofs.LogSteps.{read-stop, read-over, read-on, Fits, next-fits, when-ready}
 use Rattle.ledger.proofs.LogStates.{Keeps, next-keeps}
 
@@ -78,6 +80,20 @@ module _ (s : Ledger) (e o : ℕ) (l : List ℕ) where
   entry-whole v u h q =
       ap (λ (r : Number). enteredBy s (framed s e o l r)) h
       ∙ ap (λ (t : Bool). enteredBy s (pick t (over (Refused e BrokenRecord o)) (judgedAt s e (v % 2) l u))) (le-ltb (length l) (u + 256) q)
+
+  -- a whole entry that is idle is accepted and leaves the ledger as it is
+  pub idle-entered : (v u : ℕ) → readNumber l ≡ Value v u → u + 256 ≤ length l → ledgerOk s ≡ true
+      → length (s .carry0) ≡ 100 → length (s .carry1) ≡ 100 → length (s .held) ≡ 28 → length (s .opened) ≡ 28
+      → resting s (v % 2) (take ((u + 256) - u) (drop u l)) ≡ true
+      → record { ledger = s; used = u + 256; outcome = More } ≡ enteredBy s (nextOf s e o l)
+  idle-entered v u h q ok n0 n1 nh nw t =
+      let c : List ℕ = take ((u + 256) - u) (drop u l) in
+      let n : length c ≡ 256 = simp (length-take, length-drop) (omega arith) in
+      sym (entry-whole v u h q ∙ judged-accepted s e (v % 2) l u (record { ledger = s; answer = answer.Accepted }) (sym (idle-accepted s (v % 2) c (omega arith) ok n n0 n1 nh nw t)) refl)
+
+-- an answer by its parts
+pub entered-same : (x : Entered) {s : Ledger} {u : ℕ} → s ≡ x .ledger → u ≡ x .used → x .outcome ≡ More → record { ledger = s; used = u; outcome = More } ≡ x
+entered-same x es eu eo = λ i. record { ledger = es i; used = eu i; outcome = sym eo i }
 
 -- what the code's answer on an entry says of it
 entered-more : (s : Ledger) (n : Next) → enteredBy s n .outcome ≡ More → n ≡ onward (enteredBy s n .ledger) (enteredBy s n .used)

@@ -1,7 +1,7 @@
 // The log: its verdict, read in parts. The caller keeps the bytes that a call has not used and puts the next ones behind them.
 ghost use mathlib.Core.Path.{_≡_};
 ghost use mathlib.Core.Bool.{true};
-ghost use Prim.Native.Nat.{_+_, _-_, _≤_, _<_};
+ghost use Prim.Native.Nat.{ℕ, _+_, _-_, _≤_, _<_};
 ghost use lib.ListN.{length};
 ghost use Rattle.record.specs.Number.{readNumber};
 ghost use Rattle.ledger.specs.Audit.{ledgerOk};
@@ -134,7 +134,7 @@ fn judge_container(
     requires { ⌜ (at + 256 ≤ length (now bytes)) × (direction < 2) × (ledgerOk ledger ≡ true) ⌝ }
     ensures { λ r. ⌜ r ≡ enteredBy ledger (judgedAt ledger entries direction (now (bytes .entry)) at) ⌝ }
 {
-    let step = ledger.audit_valid(direction, &bytes[at..at + 256]);
+    let step = ledger.audit_whole(direction, &bytes[at..at + 256]);
     let answer = step.answer;
     match answer {
         Answer::Refused { cause, place } => refuse_entry(ledger, entries, cause, place),
@@ -167,6 +167,27 @@ fn judge_entry(ledger: Ledger, entries: u32, offset: u64, bytes: &[u8]) -> Enter
     }
 }
 
+// The bytes of the entry at the front where it is whole and idle, else 0.
+fn skip_idle(ledger: Ledger, bytes: &[u8]) -> usize
+    requires { ⌜ ledgerOk ledger ≡ true ⌝ }
+    ensures { λ r. ⌜ ((r ≡ 0 → ⊥) → (e o : ℕ) → record { ledger = ledger; used = r; outcome = Outcome.More } ≡ enteredBy ledger (nextOf ledger e o (now (bytes .entry)))) ⌝ }
+{
+    let number = read_number(bytes);
+    match number {
+        Number::Broken => 0,
+        Number::Value { value, used } => {
+            let end = used + 256;
+            if bytes.len() < end {
+                return 0;
+            }
+            if ledger.rests((value % 2) as usize, &bytes[used..end]) {
+                return end;
+            }
+            0
+        }
+    }
+}
+
 // A call that stops at byte `at`.
 fn stop_at(at: usize, reader: LogReader, outcome: Outcome) -> Consumed
     ensures { λ r. ⌜ r ≡ stoppedAt at reader outcome ⌝ }
@@ -176,6 +197,18 @@ fn stop_at(at: usize, reader: LogReader, outcome: Outcome) -> Consumed
         used: at,
         outcome: outcome,
     }
+}
+
+// A call that stops at byte `at`, behind so many entries and bytes.
+fn pause_at(at: usize, ledger: Ledger, entries: u32, offset: u64, outcome: Outcome) -> Consumed
+    ensures { λ r. ⌜ r ≡ stoppedAt at (record { ledger = ledger; entries = entries; offset = offset }) outcome ⌝ }
+{
+    let reader = LogReader {
+        ledger: ledger,
+        entries: entries,
+        offset: offset,
+    };
+    stop_at(at, reader, outcome)
 }
 
 impl LogReader {
@@ -220,32 +253,22 @@ impl LogReader {
         let mut offset = self.offset;
         let mut at = from;
         while can_judge(entries, &bytes[at..], ended) {
-            let step = judge_entry(ledger, entries, offset, &bytes[at..]);
-            let outcome = step.outcome;
-            match outcome {
-                Outcome::Over(verdict) => {
-                    let reader = LogReader {
-                        ledger: ledger,
-                        entries: entries,
-                        offset: offset,
-                    };
-                    return stop_at(at, reader, Outcome::Over(verdict));
+            let mut used = skip_idle(ledger, &bytes[at..]);
+            if used == 0 {
+                let step = judge_entry(ledger, entries, offset, &bytes[at..]);
+                let outcome = step.outcome;
+                if let Outcome::Over(_) = outcome {
+                    return pause_at(at, ledger, entries, offset, outcome);
                 }
-                Outcome::More => {
-                    ledger = step.ledger;
-                    entries += 1;
-                    offset += step.used as u64;
-                    at += step.used;
-                }
+                ledger = step.ledger;
+                used = step.used;
             }
+            entries += 1;
+            offset += used as u64;
+            at += used;
         }
         let outcome = conclude(entries, bytes.len() - at, ended);
-        let reader = LogReader {
-            ledger: ledger,
-            entries: entries,
-            offset: offset,
-        };
-        stop_at(at, reader, outcome)
+        pause_at(at, ledger, entries, offset, outcome)
     }
 
     // Reads the configuration and judges the entries behind it.
