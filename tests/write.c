@@ -51,9 +51,62 @@ static int untouched(const uint8_t *container) {
     return 1;
 }
 
+/* A call, and what it is to give. */
+struct vector {
+    uint32_t format;
+    uint8_t tail[TAIL], grant[GRANT], list[BYTES];
+    size_t len, list_len;
+    int refused;
+    uint64_t answer;
+    uint8_t tail_wanted[TAIL], container[CONTAINER];
+};
+
+/* Splits a line at its tabs. */
+static void split(char *line, unsigned number, char *field[FIELDS]) {
+    line[strcspn(line, "\n")] = '\0';
+    for (int k = 0; k < FIELDS; k++) {
+        field[k] = strtok(k == 0 ? line : NULL, "\t");
+        if (field[k] == NULL) {
+            fprintf(stderr, "line %u has %d fields\n", number, k);
+            exit(2);
+        }
+    }
+}
+
+/* The vector of a line. */
+static void parse(char *line, unsigned number, struct vector *v) {
+    char *field[FIELDS];
+    split(line, number, field);
+    memset(v, 0, sizeof *v);
+    v->format = (uint32_t)strtoul(field[0], NULL, 10);
+    v->len = decode(field[1], v->tail, TAIL);
+    decode_grant(field[2], v->grant);
+    v->list_len = decode(field[3], v->list, BYTES);
+    uint64_t cause = strtoull(field[4], NULL, 10), place = strtoull(field[5], NULL, 10), used = strtoull(field[6], NULL, 10);
+    size_t len = decode(field[7], v->tail_wanted, TAIL);
+    v->refused = cause != 0;
+    v->answer = cause == 0 ? used * 256 + len : cause * 4294967296u + place;
+    if (decode(field[8], v->container, CONTAINER) != CONTAINER) {
+        fprintf(stderr, "line %u has no container of 256 bytes\n", number);
+        exit(2);
+    }
+}
+
+/* Runs a vector; answers whether all is as it is to be. */
+static int run(struct vector *v, unsigned number) {
+    uint8_t container[CONTAINER];
+    memset(container, FILLER, CONTAINER);
+    uint64_t answer = c2c_fill(v->format, v->len, v->tail, TAIL, v->grant, GRANT, v->list, v->list_len, container, CONTAINER);
+    if (answer == v->answer && memcmp(v->tail, v->tail_wanted, TAIL) == 0 && memcmp(container, v->container, CONTAINER) == 0
+        && (!v->refused || untouched(container)))
+        return 1;
+    printf("line %u: answer %llu, wanted %llu\n", number, (unsigned long long)answer, (unsigned long long)v->answer);
+    return 0;
+}
+
 int main(int argc, char **argv) {
     static char line[LINE];
-    static uint8_t list[BYTES];
+    static struct vector vector;
     unsigned count = 0, differences = 0;
     FILE *in = argc == 2 ? fopen(argv[1], "r") : NULL;
     if (in == NULL) {
@@ -61,38 +114,8 @@ int main(int argc, char **argv) {
         return 2;
     }
     while (fgets(line, sizeof line, in) != NULL) {
-        line[strcspn(line, "\n")] = '\0';
-        char *field[FIELDS];
-        for (int k = 0; k < FIELDS; k++) {
-            field[k] = strtok(k == 0 ? line : NULL, "\t");
-            if (field[k] == NULL) {
-                fprintf(stderr, "line %u has %d fields\n", count + 1, k);
-                return 2;
-            }
-        }
-        uint8_t tail[TAIL] = {0}, tail_wanted[TAIL] = {0}, grant[GRANT], container[CONTAINER], container_wanted[CONTAINER];
-        uint32_t format = (uint32_t)strtoul(field[0], NULL, 10);
-        size_t len = decode(field[1], tail, TAIL);
-        decode_grant(field[2], grant);
-        size_t list_len = decode(field[3], list, BYTES);
-        uint64_t cause = strtoull(field[4], NULL, 10);
-        uint64_t place = strtoull(field[5], NULL, 10);
-        uint64_t used = strtoull(field[6], NULL, 10);
-        size_t len_wanted = decode(field[7], tail_wanted, TAIL);
-        if (decode(field[8], container_wanted, CONTAINER) != CONTAINER) {
-            fprintf(stderr, "line %u has no container of 256 bytes\n", count + 1);
-            return 2;
-        }
-        uint64_t wanted = cause == 0 ? used * 256 + len_wanted : cause * 4294967296u + place;
-        memset(container, FILLER, CONTAINER);
-        uint64_t answer = c2c_fill(format, len, tail, TAIL, grant, GRANT, list, list_len, container, CONTAINER);
-        count++;
-        int same = answer == wanted && memcmp(tail, tail_wanted, TAIL) == 0
-                   && memcmp(container, container_wanted, CONTAINER) == 0 && (cause == 0 || untouched(container));
-        if (!same) {
-            printf("line %u: answer %llu, wanted %llu\n", count, (unsigned long long)answer, (unsigned long long)wanted);
-            differences++;
-        }
+        parse(line, ++count, &vector);
+        differences += !run(&vector, count);
     }
     fclose(in);
     printf("write: %u vectors, %u differences\n", count, differences);
