@@ -1,7 +1,6 @@
 pub mod RowLaws
 pub mod TableLaws
 pub mod TableSelf
-pub mod KindCases
 pub mod PoolLoops
 pub mod ReceiverCases
 pub mod BookLaws

@@ -1,6 +1,6 @@
 // Credits and slots, two kinds of count that are never mixed.
 ghost use mathlib.Core.Path.{_≡_};
-ghost use Prim.Native.Nat.{_+_, _-_, _≤_};
+ghost use Prim.Native.Nat.{_+_};
 ghost use lib.Dec.{leb};
 
 // Credits of one pool.
@@ -25,33 +25,16 @@ impl Credits {
     }
 }
 
-impl Slots {
-    // Whether these slots are within a capacity.
-    pub fn fit(self, capacity: Slots) -> bool
-        ensures { λ r. ⌜ r ≡ leb (self .0) (capacity .0) ⌝ }
-    {
-        self.0 <= capacity.0
-    }
-}
-
-// What is left of a capacity beside slots.
-fn leave_slots(capacity: Slots, slots: Slots) -> Slots
-    requires { ⌜ slots .0 ≤ capacity .0 ⌝ }
-    ensures { λ r. ⌜ r ≡ record { 0 = capacity .0 - slots .0 } ⌝ }
+// Three counts of slots together, which 64 bits hold.
+fn sum_slots(first: Slots, second: Slots, third: Slots) -> u64
+    ensures { λ r. ⌜ r ≡ first .0 + (second .0 + third .0) ⌝ }
 {
-    Slots(capacity.0 - slots.0)
+    first.0 as u64 + (second.0 as u64 + third.0 as u64)
 }
 
 // Whether credits held, credits granted and slots of open messages are within a capacity.
 pub fn fit_together(held: Credits, granted: Credits, opened: Slots, capacity: Slots) -> bool
     ensures { λ r. ⌜ r ≡ leb (held .0 + (granted .0 + opened .0)) (capacity .0) ⌝ }
 {
-    if !held.claim().fit(capacity) {
-        return false;
-    }
-    let beside = leave_slots(capacity, held.claim());
-    if !granted.claim().fit(beside) {
-        return false;
-    }
-    opened.fit(leave_slots(beside, granted.claim()))
+    sum_slots(held.claim(), granted.claim(), opened) <= capacity.0 as u64
 }

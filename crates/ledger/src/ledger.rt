@@ -307,22 +307,6 @@ impl Ledger {
         self.settle(direction, next, paid, given)
     }
 
-    // An entry of 256 bytes, from a valid ledger, by all that it holds.
-    pub(crate) fn audit_whole(self, direction: usize, container: &[u8]) -> Step
-        requires { ⌜ (direction < 2) × (ledgerOk self ≡ true) × (length (now container) ≡ 256) ⌝ }
-        ensures { λ r. ⌜ r ≡ auditing self direction (now (container .entry)) ⌝ }
-    {
-        let judged = self.choose_reader(direction).judge(container);
-        let judgement = judged.judgement;
-        match judgement {
-            Judgement::Refused { cause, place } => self.refuse(cause, place),
-            Judgement::Accepted { grant, starts } => {
-                let next = judged.reader;
-                self.audit_read(direction, container, next, grant, starts)
-            }
-        }
-    }
-
     // An entry of 256 bytes, from a valid ledger: what is idle is accepted as it is.
     pub(crate) fn audit_valid(self, direction: usize, container: &[u8]) -> Step
         requires { ⌜ (direction < 2) × (ledgerOk self ≡ true) × (length (now container) ≡ 256) ⌝ }
@@ -334,7 +318,15 @@ impl Ledger {
                 answer: Answer::Accepted,
             };
         }
-        self.audit_whole(direction, container)
+        let judged = self.choose_reader(direction).judge(container);
+        let judgement = judged.judgement;
+        match judgement {
+            Judgement::Refused { cause, place } => self.refuse(cause, place),
+            Judgement::Accepted { grant, starts } => {
+                let next = judged.reader;
+                self.audit_read(direction, container, next, grant, starts)
+            }
+        }
     }
 
     // Whether a direction is one and the ledger is valid.

@@ -134,7 +134,7 @@ fn judge_container(
     requires { ⌜ (at + 256 ≤ length (now bytes)) × (direction < 2) × (ledgerOk ledger ≡ true) ⌝ }
     ensures { λ r. ⌜ r ≡ enteredBy ledger (judgedAt ledger entries direction (now (bytes .entry)) at) ⌝ }
 {
-    let step = ledger.audit_whole(direction, &bytes[at..at + 256]);
+    let step = ledger.audit_valid(direction, &bytes[at..at + 256]);
     let answer = step.answer;
     match answer {
         Answer::Refused { cause, place } => refuse_entry(ledger, entries, cause, place),
