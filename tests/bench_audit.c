@@ -9,7 +9,7 @@
 #include "plain.h"
 #include "traffic.h"
 
-enum { COUNT = 2000, ROUNDS = 15, PROFILES = 3, WAYS = 4 };
+enum { COUNT = 2000, ROUNDS = 200, PROFILES = 3, WAYS = 4 };
 
 static const char *const profile_name[PROFILES] = {"idle", "mixed", "dense"};
 static const struct profile profiles[PROFILES] = {{100, 0, 0, 0}, {25, 25, 25, 50}, {0, 0, 25, 100}};
