@@ -167,7 +167,7 @@ fn judge_entry(ledger: Ledger, entries: u32, offset: u64, bytes: &[u8]) -> Enter
     }
 }
 
-// The bytes of the entry at the front where it is whole and idle, else 0.
+// The bytes of the entry at the front where it is whole and idle, so that it leaves the ledger as it is, else 0.
 fn skip_idle(ledger: Ledger, bytes: &[u8]) -> usize
     requires { ⌜ ledgerOk ledger ≡ true ⌝ }
     ensures { λ r. ⌜ ((r ≡ 0 → ⊥) → (e o : ℕ) → record { ledger = ledger; used = r; outcome = Outcome.More } ≡ enteredBy ledger (nextOf ledger e o (now (bytes .entry)))) ⌝ }

@@ -52,15 +52,19 @@ pub fn add_payment(counts: &mut [u32], first: u8, second: u8)
     }
 }
 
-// The types that pay a REQ, an RSP, an SNP, a DAT of DataS and DataL, and a DAT of push data: bit t for type t.
+// The types that pay a REQ credit, bit t for type t: 1, 2, 8 and 9.
 const REQ_TYPES: u16 = 0x306;
 
+// The types that pay an RSP credit: 3 and 4.
 const RSP_TYPES: u16 = 0x18;
 
+// The type that pays an SNP credit: 5.
 const SNP_TYPES: u16 = 0x20;
 
+// The types that pay a DAT credit by byte 0: 6 and 7.
 const DAT_TYPES: u16 = 0xC0;
 
+// The types that pay a DAT credit by byte 1, for push data: 8 and 9.
 const PUSH_TYPES: u16 = 0x300;
 
 // 1 where a type is one of these, else 0.
