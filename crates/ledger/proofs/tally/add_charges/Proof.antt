@@ -18,7 +18,7 @@ count-type-requires c κs = search needs
 add-count-requires : tie.Need-add-count-requires
 add-count-requires one κs =
     let s = one .before .before .before .before in
-    add-req (s .args .first) (s .args .second) (omega arith) (s .args .counts .now) (counts s) (one .before .choose-req .ensures) (one .count-type .ensures)
+    add-req (s .args .first) (s .args .second) (omega arith) (s .args .counts .now) (counts s) (one .before .choose-req .ensures) _ (one .count-type .ensures)
 
 count-type-requires-2 : tie.Need-count-type-requires-2
 count-type-requires-2 c κs = search needs
@@ -27,7 +27,7 @@ add-count-requires-2 : tie.Need-add-count-requires-2
 add-count-requires-2 two κs =
     let one = two .before .before .before .before .before in
     let s = one .before .before .before .before in
-    add-rsp (s .args .first) (s .args .second) (omega arith) (s .args .counts .now) (counts s) (one .before .choose-req .ensures) (one .count-type .ensures) (two .before .before .before .before .add-count .ensures) (two .count-type2 .ensures)
+    add-rsp (s .args .first) (s .args .second) (omega arith) (s .args .counts .now) (counts s) (one .before .choose-req .ensures) _ (one .count-type .ensures) (two .before .before .before .before .add-count .ensures) _ (two .count-type2 .ensures)
 
 count-type-requires-3 : tie.Need-count-type-requires-3
 count-type-requires-3 c κs = search needs
@@ -37,7 +37,7 @@ add-count-requires-3 three κs =
     let two = three .before .before .before .before .before in
     let one = two .before .before .before .before .before in
     let s = one .before .before .before .before in
-    add-snp (s .args .first) (s .args .second) (omega arith) (s .args .counts .now) (counts s) (one .before .choose-req .ensures) (one .count-type .ensures) (two .before .before .before .before .add-count .ensures) (two .count-type2 .ensures) (three .before .before .before .before .add-count2 .ensures) (three .count-type3 .ensures)
+    add-snp (s .args .first) (s .args .second) (omega arith) (s .args .counts .now) (counts s) (one .before .choose-req .ensures) _ (one .count-type .ensures) (two .before .before .before .before .add-count .ensures) _ (two .count-type2 .ensures) (three .before .before .before .before .add-count2 .ensures) _ (three .count-type3 .ensures)
 
 choose-dat-requires : tie.Need-choose-dat-requires
 choose-dat-requires c κs = search needs
@@ -51,7 +51,7 @@ add-count-requires-4 four κs =
     let two = three .before .before .before .before .before in
     let one = two .before .before .before .before .before in
     let s = one .before .before .before .before in
-    add-dat (s .args .first) (s .args .second) (omega arith) (s .args .counts .now) (counts s) (one .before .choose-req .ensures) (one .count-type .ensures) (two .before .before .before .before .add-count .ensures) (two .count-type2 .ensures) (three .before .before .before .before .add-count2 .ensures) (three .count-type3 .ensures) (four .before .before .before .before .before .add-count3 .ensures) (four .before .choose-dat .ensures) (four .count-type4 .ensures)
+    add-dat (s .args .first) (s .args .second) (omega arith) (s .args .counts .now) (counts s) (one .before .choose-req .ensures) _ (one .count-type .ensures) (two .before .before .before .before .add-count .ensures) _ (two .count-type2 .ensures) (three .before .before .before .before .add-count2 .ensures) _ (three .count-type3 .ensures) (four .before .before .before .before .before .add-count3 .ensures) (four .before .choose-dat .ensures) _ (four .count-type4 .ensures)
 
 choose-push-requires : tie.Need-choose-push-requires
 choose-push-requires c κs = search needs
@@ -66,7 +66,7 @@ add-count-requires-5 five κs =
     let two = three .before .before .before .before .before in
     let one = two .before .before .before .before .before in
     let s = one .before .before .before .before in
-    add-push (s .args .first) (s .args .second) (omega arith) (s .args .counts .now) (counts s) (one .before .choose-req .ensures) (one .count-type .ensures) (two .before .before .before .before .add-count .ensures) (two .count-type2 .ensures) (three .before .before .before .before .add-count2 .ensures) (three .count-type3 .ensures) (four .before .before .before .before .before .add-count3 .ensures) (four .before .choose-dat .ensures) (four .count-type4 .ensures) (five .before .before .before .before .before .add-count4 .ensures) (five .before .choose-push .ensures) (five .count-type5 .ensures)
+    add-push (s .args .first) (s .args .second) (omega arith) (s .args .counts .now) (counts s) (one .before .choose-req .ensures) _ (one .count-type .ensures) (two .before .before .before .before .add-count .ensures) _ (two .count-type2 .ensures) (three .before .before .before .before .add-count2 .ensures) _ (three .count-type3 .ensures) (four .before .before .before .before .before .add-count3 .ensures) (four .before .choose-dat .ensures) _ (four .count-type4 .ensures) (five .before .before .before .before .before .add-count4 .ensures) (five .before .choose-push .ensures) _ (five .count-type5 .ensures)
 
 same-length : tie.Need-same-length
 same-length c = search needs
@@ -79,7 +79,7 @@ returns c =
     let two = three .before .before .before .before .before in
     let one = two .before .before .before .before .before in
     let s = one .before .before .before .before in
-    add-all (s .args .first) (s .args .second) (omega arith) (s .args .counts .now) (counts s) (one .before .choose-req .ensures) (one .count-type .ensures) (two .before .before .before .before .add-count .ensures) (two .count-type2 .ensures) (three .before .before .before .before .add-count2 .ensures) (three .count-type3 .ensures) (four .before .before .before .before .before .add-count3 .ensures) (four .before .choose-dat .ensures) (four .count-type4 .ensures) (five .before .before .before .before .before .add-count4 .ensures) (five .before .choose-push .ensures) (five .count-type5 .ensures) (c .before .before .add-count5 .ensures)
+    add-all (s .args .first) (s .args .second) (omega arith) (s .args .counts .now) (counts s) (one .before .choose-req .ensures) _ (one .count-type .ensures) (two .before .before .before .before .add-count .ensures) _ (two .count-type2 .ensures) (three .before .before .before .before .add-count2 .ensures) _ (three .count-type3 .ensures) (four .before .before .before .before .before .add-count3 .ensures) (four .before .choose-dat .ensures) _ (four .count-type4 .ensures) (five .before .before .before .before .before .add-count4 .ensures) (five .before .choose-push .ensures) _ (five .count-type5 .ensures) tt tt tt tt tt (c .before .before .add-count5 .ensures)
 
 pub add-charges-spec : {M : Type 1} → statement M
 add-charges-spec =
