@@ -34,9 +34,15 @@ use Rattle.demands.specs.Demand3.{Demand3}
 use Rattle.demands.proofs.TapLaws.{reads-by, by-reads, passes-sound, receiver-valid, lawful}
 
 -- ---- directions and numbers
-number-below : (d : Direction) → numberOf d < 2
+pub number-below : (d : Direction) → numberOf d < 2
 number-below direction0 = omega arith
 number-below direction1 = omega arith
+
+-- the direction of a number below 2
+pub of-number : (n : ℕ) → n < 2 → (d : Direction) × (numberOf d ≡ n)
+of-number zero h = (direction0, refl)
+of-number (suc zero) h = (direction1, refl)
+of-number (suc (suc n)) h = absurd (omega arith)
 
 number-opposite : (d : Direction) → numberOf (opposite d) ≡ audit.opposite (numberOf d)
 number-opposite direction0 = refl
@@ -86,10 +92,10 @@ next-refused l n c e = by (firstFault (auditChecks l n c)) e
     by (Faulty k p) t = refl
 
 -- what a ledger reports, within its pools and past them
-reported-held : (l : Ledger) (n p : ℕ) → n < 2 → p < 14 → reported l n p .held .0 ≡ heldOf l n p
+pub reported-held : (l : Ledger) (n p : ℕ) → n < 2 → p < 14 → reported l n p .held .0 ≡ heldOf l n p
 reported-held l n p h k = rw (lt-ltb n 2 h, lt-ltb p 14 k)
 
-reported-open : (l : Ledger) (n p : ℕ) → n < 2 → p < 14 → reported l n p .opened .0 ≡ openOf l n p
+pub reported-open : (l : Ledger) (n p : ℕ) → n < 2 → p < 14 → reported l n p .opened .0 ≡ openOf l n p
 reported-open l n p h k = rw (lt-ltb n 2 h, lt-ltb p 14 k)
 
 reported-past : (l : Ledger) (n p : ℕ) → n < 2 → 14 ≤ p → (reported l n p .held .0 ≡ 0) × (reported l n p .opened .0 ≡ 0)
@@ -368,7 +374,7 @@ module _ (f : ℕ) (a b : Receiver) (v : configured f a b ≡ true) where
             reported-open (freshLedger f a b) (numberOf d) p (number-below d) k ∙ zero-at (14 * numberOf d + p),
           )
 
-  simulates : Simulates (auditorOf f a b) (linkAuditor K) Related
+  pub simulates : Simulates (auditorOf f a b) (linkAuditor K) Related
   simulates = record {
     related-first = related-first;
     same-answer = λ l m r x. same-answer l m r (x .number) (x .container);

@@ -1,4 +1,4 @@
--- The marked examples by computation. Assumes nothing.
+-- The marked examples, and two orders of the same containers, by computation. Assumes nothing.
 use mathlib.Core.Path.{refl}
 use Rattle.record.specs.Number.{number, readNumber}
 use Rattle.record.specs.Records.{faultFrom, listFault}
@@ -10,7 +10,12 @@ use Rattle.writer.specs.Laying.{setAll, layCells, containerOf, filled}
 use Rattle.writer.specs.Filling.{callChecks, fillFault, fillBytes}
 use Rattle.ledger.specs.Pools.{capacitiesOk, allMessages, allGrants, paidTo, grantedTo, grantsIn}
 use Rattle.ledger.specs.Audit.{poolsOk, begun, finished, granted, heldChecks, roomChecks, auditChecks, row, nextLedger, auditing}
+use Rattle.history.specs.Trace.{start}
+use Rattle.history.specs.Link.{direction0, direction1}
+use Rattle.history.specs.Interleaving.{SameContainers}
+use Rattle.demands.specs.LogTap.{tapOf}
 use Rattle.demands.specs.Marked.{Marked}
+use Rattle.demands.specs.Interleaving.{startsBetween, startsLast, Orders}
 
 pub marked : Marked
 unfolding number readNumber faultFrom listFault cells carryAfter endings startings granuleChecks groupChecks containerChecks stateChecks readChecks nextReader records reading plan setAll layCells containerOf filled callChecks fillFault fillBytes capacitiesOk allMessages allGrants paidTo grantedTo grantsIn poolsOk begun finished granted heldChecks roomChecks auditChecks row nextLedger auditing
@@ -31,3 +36,20 @@ marked = record {
   m9-broken = refl;
   m10 = refl;
 }
+
+-- the orders in which a start and two grants pass
+pub orders : Orders
+unfolding cells carryAfter endings startings granuleChecks groupChecks containerChecks stateChecks nextReader capacitiesOk allMessages allGrants paidTo grantedTo grantsIn poolsOk begun finished granted heldChecks roomChecks auditChecks row nextLedger auditing
+orders = record {
+  between = (refl, (refl, (refl, tt)));
+  last = (refl, (refl, (refl, tt)));
+  first = refl;
+  same-containers = same;
+  held = refl;
+  opened = refl;
+  carried = refl;
+}
+  where
+    same : SameContainers (tapOf start startsBetween) (tapOf start startsLast)
+    same direction0 = refl
+    same direction1 = refl

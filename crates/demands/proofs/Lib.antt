@@ -4,4 +4,5 @@ pub mod TapLaws
 pub mod Books
 pub mod LogRefused
 pub mod LogTap
+pub mod Interleaving
 pub mod Examples

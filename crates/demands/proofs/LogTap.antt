@@ -1,6 +1,6 @@
 -- An accepted log is the tap record of some history, and a log that is refused by a reading or pool cause is not, with the refused entry.
 -- Assumes nothing.
-use Prim.Native.Nat.{ℕ, zero, suc, _<_}
+use Prim.Native.Nat.{ℕ, _<_}
 use native.Mathlib.Omega.{arith}
 use mathlib.Core.Path.{_≡_, refl, sym, ap, subst, _∙_}
 use mathlib.Core.Bool.{true}
@@ -17,7 +17,7 @@ use Rattle.ledger.specs.declared.receiver.Receiver.{Receiver}
 use Rattle.ledger.specs.declared.ledger.Ledger.{Ledger}
 use Rattle.ledger.specs.declared.ledger.Answer.the-variants.{Refused}
 use Rattle.history.specs.Trace.{Trace, start, _▷_, whole}
-use Rattle.history.specs.Link.{Direction, direction0, direction1, numberOf, directionOf, Link}
+use Rattle.history.specs.Link.{Direction, numberOf, directionOf, Link}
 use Rattle.history.specs.History.{Entry, Tapped}
 use Rattle.history.specs.Calls.{Call, Auditor, note, after, accepted, Admits}
 use Rattle.demands.specs.Tap.{linkOf, accepting, auditorOf}
@@ -25,13 +25,8 @@ use Rattle.demands.specs.LogTap.{tapOf, linkAt, LogTapped, behind, Begin
 use Rattle.ledger.specs.Stream.{most}
 use Rattle.ledger.proofs.AcceptedTheorem.{accepted-only}
 use Rattle.history.proofs.Calls.{direction-is}
-use Rattle.demands.proofs.Books.{demand3}
+use Rattle.demands.proofs.Books.{of-number, demand3}
 use Rattle.demands.proofs.LogRefused.{refused-only}
-
-of-number : (n : ℕ) → n < 2 → (d : Direction) × (numberOf d ≡ n)
-of-number zero h = (direction0, refl)
-of-number (suc zero) h = (direction1, refl)
-of-number (suc (suc n)) h = absurd (omega arith)
 
 -- the refused entry has a direction
 last-side : {es : List log.Entry} {x : log.Entry} {l : List ℕ} → Begins es x l → x .direction < 2
@@ -63,7 +58,7 @@ module _ (f : ℕ) (a b : Receiver) (v : configured f a b ≡ true) where
       subst (λ (t : Trace (Entry (List ℕ))). Tapped K (tapOf t es)) r (all-more (xs ▷ x) es (h .1) (subst (Tapped K) (sym r) (one-more xs x q)))
 
   -- calls that are accepted one after the other, as a list of calls of the audit
-  ran : (xs : Trace (Call (List ℕ))) (es : List log.Entry) → AllAccepted (after U xs) es
+  pub ran : (xs : Trace (Call (List ℕ))) (es : List log.Entry) → AllAccepted (after U xs) es
       → (ys : Trace (Call (List ℕ))) × (after U ys ≡ behind (after U xs) es) × (accepted U ys ≡ tapOf (accepted U xs) es)
   ran xs [] h = (xs, refl, refl)
   ran xs (e ∷ es) h =

@@ -4,3 +4,4 @@ pub mod Tap
 pub mod Demand3
 pub mod LogTap
 pub mod Marked
+pub mod Interleaving

@@ -8,4 +8,6 @@ pub mod Calls
 pub mod Below
 pub mod Ledger
 pub mod Demand
+pub mod InterleavingLaws
+pub mod Interleaved
 pub mod Example

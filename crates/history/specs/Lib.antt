@@ -6,3 +6,4 @@ pub mod Books
 pub mod Calls
 pub mod Audit
 pub mod Demand
+pub mod Interleaving

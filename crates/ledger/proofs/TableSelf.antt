@@ -1,13 +1,13 @@
 -- A flat list of counts is the table of its entries. Assumes nothing.
-use Prim.Native.Nat.{ℕ, _+_, _*_}
+use Prim.Native.Nat.{ℕ, _+_, _*_, _<_}
 use native.Mathlib.Nat.{zero-add}
 use native.Mathlib.Omega.{arith}
 use mathlib.Core.Path.{_≡_, sym, ap, ap₂, _∙_}
 use mathlib.Core.List.{List, _++_}
-use lib.ListN.{length, getD, take, drop, length-drop, take-append-drop}
+use lib.ListN.{length, getD, take, drop, length-append, length-drop, take-append-drop}
 use lib.Seq.{length-take-le, getD-take, getD-drop}
 use Rattle.ledger.specs.Audit.{table}
-use Rattle.ledger.proofs.RowLaws.{row-same, row-equal}
+use Rattle.ledger.proofs.RowLaws.{length-row, row-same, row-equal}
 
 pub table-self : (l : List ℕ) → length l ≡ 28 → table (λ e p. getD l (14 * e + p) 0) ≡ l
 table-self l n =
@@ -19,4 +19,15 @@ table-self l n =
 pub table-by : (f : ℕ → ℕ → ℕ) (l : List ℕ) → length l ≡ 28 → ((e p : ℕ) → f e p ≡ getD l (14 * e + p) 0) → table f ≡ l
 table-by f l n h =
     ap₂ _++_ (row-equal (f 0) (λ p. getD l (0 + p) 0) (λ p b. h 0 p)) (row-equal (f 1) (λ p. getD l (14 + p) 0) (λ p b. h 1 p))
+    ∙ table-self l n
+
+pub length-table : (f : ℕ → ℕ → ℕ) → length (table f) ≡ 28
+length-table f = simp (length-append, length-row)
+
+-- two lists of 28 with the same entries
+pub table-equal : (k l : List ℕ) → length k ≡ 28 → length l ≡ 28 → ((e p : ℕ) → e < 2 → p < 14 → getD k (14 * e + p) 0 ≡ getD l (14 * e + p) 0) → k ≡ l
+table-equal k l m n h =
+    sym (table-self k m)
+    ∙ ap₂ _++_ (row-equal (λ p. getD k (0 + p) 0) (λ p. getD l (0 + p) 0) (λ p b. h 0 p (omega arith) b))
+    (row-equal (λ p. getD k (14 + p) 0) (λ p. getD l (14 + p) 0) (λ p b. h 1 p (omega arith) b))
     ∙ table-self l n
