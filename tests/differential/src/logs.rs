@@ -11,6 +11,7 @@ use crate::make;
 use crate::random::Random;
 
 /// One container of one direction, at some time.
+#[derive(Clone)]
 pub struct Entry {
     pub direction: u8,
     pub ticks: u32,

@@ -1,6 +1,7 @@
 //! Compares the proved code with the model on random inputs. Usage:
 //! differential [--seed N] [--long] [--data DIR] [--programs DIR] [--audit PATH]
 
+mod interleavings;
 mod logs;
 mod make;
 mod programs;
@@ -26,6 +27,8 @@ use crate::vectors::Outcome;
 const CONTAINERS: usize = 400_000;
 const LISTS: usize = 50_000;
 const LOGS: usize = 15_000;
+const INTERLEAVED: usize = 10_000;
+const PAIRS: usize = 2_000;
 const RUNS: usize = 500;
 const AUDITED: usize = 5;
 const LONGER: usize = 10;
@@ -73,6 +76,9 @@ fn main() -> ExitCode {
     for n in 0..LOGS * options.times {
         compare_log(&mut random, &mut tally, n, options.audit.as_deref());
     }
+    for _ in 0..INTERLEAVED * options.times {
+        compare_interleavings(&mut random, &mut tally);
+    }
     if let Some(programs) = &options.programs {
         for _ in 0..RUNS * options.times {
             compare_programs(&mut random, &mut tally, programs);
@@ -83,7 +89,11 @@ fn main() -> ExitCode {
     if !missed.is_empty() {
         println!("causes not met: {missed:?}");
     }
-    ExitCode::from(u8::from(!missed.is_empty() || tally.differences + vectors.differences > 0))
+    if tally.pairs < PAIRS {
+        println!("fewer than {PAIRS} pairs of interleavings");
+    }
+    let complete = missed.is_empty() && tally.pairs >= PAIRS;
+    ExitCode::from(u8::from(!complete || tally.differences + vectors.differences > 0))
 }
 
 /// Runs the vector files against the model.
@@ -114,8 +124,9 @@ fn report(tally: &Tally, seed: u64, started: Instant) {
     tally.print_table();
     let [containers, lists, logs] = tally.compared;
     println!(
-        "differential: seed {seed}, {containers} containers, {lists} lists, {logs} logs of {} entries, {} program runs, {} differences, {} s",
+        "differential: seed {seed}, {containers} containers, {lists} lists, {logs} logs of {} entries, {} pairs of interleavings, {} program runs, {} differences, {} s",
         tally.entries,
+        tally.pairs,
         tally.runs,
         tally.differences,
         started.elapsed().as_secs()
@@ -314,6 +325,20 @@ fn compare_audit(tally: &mut Tally, program: &str, bytes: &[u8], part: usize) {
     if printed != expected.as_bytes() {
         let what = format!("audit, parts of {part}");
         tally.differ(&what, bytes, expected.trim(), String::from_utf8_lossy(&printed).trim());
+    }
+}
+
+/// Compares what two accepted orders of the same containers end with.
+fn compare_interleavings(random: &mut Random, tally: &mut Tally) {
+    let Some([one, other]) = interleavings::pair(random) else { return };
+    tally.pairs += 1;
+    let [audited, again] = [&one, &other].map(|run| proved::audit(&run.log.numbers, &run.log.entry_bytes()));
+    if audited.accepted != one.log.entries.len() || audited != again {
+        tally.differ("c2c_audit of two orders", &other.log.bytes(), &format!("{audited:?}"), &format!("{again:?}"));
+    }
+    if one.ledger != other.ledger {
+        let what = "the model's ledger of two orders";
+        tally.differ(what, &other.log.bytes(), &format!("{:?}", one.ledger), &format!("{:?}", other.ledger));
     }
 }
 

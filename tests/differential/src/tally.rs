@@ -28,6 +28,7 @@ pub struct Tally {
     pub compared: [usize; 3],
     pub accepted: [usize; 3],
     pub entries: usize,
+    pub pairs: usize,
     pub runs: usize,
     pub differences: usize,
     causes: BTreeMap<u32, Met>,
