@@ -1,5 +1,5 @@
 -- Two records of the same containers end alike, in the code's own ledger. Assumes nothing.
-use Prim.Native.Nat.{ℕ, _+_, _*_, _<_}
+use Prim.Native.Nat.{ℕ, _<_}
 use mathlib.Core.Path.{_≡_, refl, sym, ap, subst, _∙_}
 use mathlib.Core.Bool.{true}
 use mathlib.Core.List.{List}
@@ -16,9 +16,9 @@ use Rattle.ledger.specs.declared.receiver.Receiver.{Receiver}
 use Rattle.ledger.specs.declared.ledger.Ledger.{Ledger}
 use Rattle.ledger.proofs.TableSelf.{length-table, table-equal}
 use Rattle.history.specs.Trace.{Trace, start, _▷_}
-use Rattle.history.specs.Link.{Direction, direction0, direction1, numberOf, Link}
+use Rattle.history.specs.Link.{Direction, direction0, direction1, numberOf}
 use Rattle.history.specs.Books.{containersOf}
-use Rattle.history.specs.Calls.{Call, Auditor, after, accepted}
+use Rattle.history.specs.Calls.{Call, Auditor, after}
 use Rattle.history.specs.Audit.{linkAuditor}
 use Rattle.history.specs.Interleaving.{SameContainers, SameReports}
 use Rattle.history.proofs.Calls.{always-related}
@@ -43,23 +43,17 @@ next-long l n c h = by (firstFault (auditChecks l n c))
     by (Faulty k p) = h
 
 ledger-alike : (l m : Ledger) → l .format ≡ m .format → l .receiver0 ≡ m .receiver0 → l .receiver1 ≡ m .receiver1 → SameEnd l m → l ≡ m
-ledger-alike l m f a b s = whole
-  where
-    fields : Ledger → Ledger
-    fields k = record {
-      format = k .format;
-      receiver0 = k .receiver0;
-      receiver1 = k .receiver1;
-      carry0 = k .carry0;
-      len0 = k .len0;
-      carry1 = k .carry1;
-      len1 = k .len1;
-      held = k .held;
-      opened = k .opened;
-    }
-
-    whole : fields l ≡ fields m
-    whole = cc
+ledger-alike l m f a b s = λ i. record {
+  format = f i;
+  receiver0 = a i;
+  receiver1 = b i;
+  carry0 = s .carry0 i;
+  len0 = s .len0 i;
+  carry1 = s .carry1 i;
+  len1 = s .len1 i;
+  held = s .held i;
+  opened = s .opened i;
+}
 
 module _ (f : ℕ) (a b : Receiver) (v : configured f a b ≡ true) where
   abbrev U : Auditor (List ℕ)

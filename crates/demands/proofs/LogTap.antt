@@ -17,7 +17,7 @@ use Rattle.ledger.specs.declared.receiver.Receiver.{Receiver}
 use Rattle.ledger.specs.declared.ledger.Ledger.{Ledger}
 use Rattle.ledger.specs.declared.ledger.Answer.the-variants.{Refused}
 use Rattle.history.specs.Trace.{Trace, start, _▷_, whole}
-use Rattle.history.specs.Link.{Direction, numberOf, directionOf, Link}
+use Rattle.history.specs.Link.{Direction, directionOf, Link}
 use Rattle.history.specs.History.{Entry, Tapped}
 use Rattle.history.specs.Calls.{Call, Auditor, note, after, accepted, Admits}
 use Rattle.demands.specs.Tap.{linkOf, accepting, auditorOf}

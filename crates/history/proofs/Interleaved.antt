@@ -24,8 +24,18 @@ module _ (K : Link) where
 
     pub same-numbers : SameReports (linkAuditor K) l m
     same-numbers = record {
-      held = λ d p. let h = a .held-is d p in let h′ = b .held-is d p in let g = same-total grants (opposite d) p in let s = same-total begins d p in omega arith;
-      unfinished = λ d p. let h = a .unfinished-is d p in let h′ = b .unfinished-is d p in let s = same-total begins d p in let f = same-total finishes d p in omega arith;
+      held = λ d p.
+          let h = a .held-is d p in
+          let h′ = b .held-is d p in
+          let g = same-total grants (opposite d) p in
+          let s = same-total begins d p in
+          omega arith;
+      unfinished = λ d p.
+          let h = a .unfinished-is d p in
+          let h′ = b .unfinished-is d p in
+          let s = same-total begins d p in
+          let f = same-total finishes d p in
+          omega arith;
     }
 
     pub same-states : (d : Direction) → l .states d ≡ m .states d

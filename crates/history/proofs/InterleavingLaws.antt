@@ -56,15 +56,15 @@ module _ (K : Link) (l : Ledger K) (c0 c1 : K .Container) where
   first1 = enter K (enter K l direction1 c1) direction0 c0
 
   -- the same credits are held, if those that the messages pay are held before both
-  exchanged-held : ((p : ℕ) → creditsPaid K l direction0 c0 p ≤ l .held direction0 p) → ((p : ℕ) → creditsPaid K l direction1 c1 p ≤ l .held direction1 p)
+  pub exchanged-held : ((p : ℕ) → creditsPaid K l direction0 c0 p ≤ l .held direction0 p) → ((p : ℕ) → creditsPaid K l direction1 c1 p ≤ l .held direction1 p)
       → (d : Direction) (p : ℕ) → first0 .held d p ≡ first1 .held d p
   exchanged-held h k direction0 p = let q = h p in omega arith
   exchanged-held h k direction1 p = let q = k p in omega arith
 
-  exchanged-unfinished : (d : Direction) (p : ℕ) → first0 .unfinished d p ≡ first1 .unfinished d p
+  pub exchanged-unfinished : (d : Direction) (p : ℕ) → first0 .unfinished d p ≡ first1 .unfinished d p
   exchanged-unfinished direction0 p = refl
   exchanged-unfinished direction1 p = refl
 
-  exchanged-states : (d : Direction) → first0 .states d ≡ first1 .states d
+  pub exchanged-states : (d : Direction) → first0 .states d ≡ first1 .states d
   exchanged-states direction0 = refl
   exchanged-states direction1 = refl

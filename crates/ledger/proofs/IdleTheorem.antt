@@ -205,8 +205,8 @@ module _ (s : Ledger) (d : ℕ) (c : List ℕ) (b : d < 2) (ok : ledgerOk s ≡ 
       ledger-kept =
           let carry = chosen (eqb d 0) (s .carry0) (s .carry1) (ap (λ (x : Reader). x .carry) reader-kept) in
           let len = chosen (eqb d 0) (s .len0) (s .len1) (ap (λ (x : Reader). x .len) reader-kept) in
-          let held = table-by (heldAfter s d c) (s .held) nh held-kept in
-          let opened = table-by (openAfter s d c) (s .opened) nw open-kept in
+          let held = table-by (heldAfter s d c) (s .held) nh (λ e p h k. held-kept e p) in
+          let opened = table-by (openAfter s d c) (s .opened) nw (λ e p h k. open-kept e p) in
           λ i. record {
             format = s .format;
             receiver0 = s .receiver0;

@@ -16,18 +16,14 @@ table-self l n =
     sym (ap₂ _++_ first second) ∙ take-append-drop 14 l
 
 -- a table whose entries are those of a list
-pub table-by : (f : ℕ → ℕ → ℕ) (l : List ℕ) → length l ≡ 28 → ((e p : ℕ) → f e p ≡ getD l (14 * e + p) 0) → table f ≡ l
+pub table-by : (f : ℕ → ℕ → ℕ) (l : List ℕ) → length l ≡ 28 → ((e p : ℕ) → e < 2 → p < 14 → f e p ≡ getD l (14 * e + p) 0) → table f ≡ l
 table-by f l n h =
-    ap₂ _++_ (row-equal (f 0) (λ p. getD l (0 + p) 0) (λ p b. h 0 p)) (row-equal (f 1) (λ p. getD l (14 + p) 0) (λ p b. h 1 p))
+    ap₂ _++_ (row-equal (f 0) (λ p. getD l (0 + p) 0) (λ p b. h 0 p (omega arith) b)) (row-equal (f 1) (λ p. getD l (14 + p) 0) (λ p b. h 1 p (omega arith) b))
     ∙ table-self l n
+
+-- two lists with the same entries
+pub table-equal : (k l : List ℕ) → length k ≡ 28 → length l ≡ 28 → ((e p : ℕ) → e < 2 → p < 14 → getD k (14 * e + p) 0 ≡ getD l (14 * e + p) 0) → k ≡ l
+table-equal k l m n h = sym (table-self k m) ∙ table-by (λ e p. getD k (14 * e + p) 0) l n h
 
 pub length-table : (f : ℕ → ℕ → ℕ) → length (table f) ≡ 28
 length-table f = simp (length-append, length-row)
-
--- two lists of 28 with the same entries
-pub table-equal : (k l : List ℕ) → length k ≡ 28 → length l ≡ 28 → ((e p : ℕ) → e < 2 → p < 14 → getD k (14 * e + p) 0 ≡ getD l (14 * e + p) 0) → k ≡ l
-table-equal k l m n h =
-    sym (table-self k m)
-    ∙ ap₂ _++_ (row-equal (λ p. getD k (0 + p) 0) (λ p. getD l (0 + p) 0) (λ p b. h 0 p (omega arith) b))
-    (row-equal (λ p. getD k (14 + p) 0) (λ p. getD l (14 + p) 0) (λ p b. h 1 p (omega arith) b))
-    ∙ table-self l n
