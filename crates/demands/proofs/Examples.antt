@@ -41,13 +41,10 @@ marked = record {
 pub orders : Orders
 unfolding cells carryAfter endings startings granuleChecks groupChecks containerChecks stateChecks nextReader capacitiesOk allMessages allGrants paidTo grantedTo grantsIn poolsOk begun finished granted heldChecks roomChecks auditChecks row nextLedger auditing
 orders = record {
-  between = (refl, (refl, (refl, tt)));
-  last = (refl, (refl, (refl, tt)));
-  first = refl;
   same-containers = same;
-  held = refl;
-  opened = refl;
-  carried = refl;
+  between = record { accepted = (refl, (refl, (refl, tt))); held = refl; opened = refl; carried = refl };
+  last = record { accepted = (refl, (refl, (refl, tt))); held = refl; opened = refl; carried = refl };
+  first = refl;
 }
   where
     same : SameContainers (tapOf start startsBetween) (tapOf start startsLast)

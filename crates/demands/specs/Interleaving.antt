@@ -71,13 +71,16 @@ startsBetween = dataGranted ∷ dataStarted ∷ responseGranted ∷ []
 abbrev pub startsLast : List log.Entry
 startsLast = dataGranted ∷ responseGranted ∷ dataStarted ∷ []
 
--- an example: two orders that are accepted, and one that is not
+-- entries that are accepted, and end with an RSP credit held, a message open in shared DAT and 60 bytes of it carried
+pub record Ended (es : List log.Entry) : Type 0 where
+  pub accepted : AllAccepted oneBuffer es
+  pub held : reported (behind oneBuffer es) 0 9 .held .0 ≡ 1
+  pub opened : reported (behind oneBuffer es) 0 11 .opened .0 ≡ 1
+  pub carried : behind oneBuffer es .len0 ≡ 60
+
+-- an example: two orders that are accepted and end alike, and one that is refused
 pub record Orders : Type 0 where
-  pub between : AllAccepted oneBuffer startsBetween
-  pub last : AllAccepted oneBuffer startsLast
-  pub first : auditing oneBuffer (dataStarted .direction) (dataStarted .container) .answer ≡ Refused BegunOverGranted 11
   pub same-containers : SameContainers (tapOf start startsBetween) (tapOf start startsLast)
-  -- they end with an RSP credit held, a message open in shared DAT and 60 bytes of it carried
-  pub held : reported (behind oneBuffer startsBetween) 0 9 .held .0 ≡ 1
-  pub opened : reported (behind oneBuffer startsBetween) 0 11 .opened .0 ≡ 1
-  pub carried : behind oneBuffer startsBetween .len0 ≡ 60
+  pub between : Ended startsBetween
+  pub last : Ended startsLast
+  pub first : auditing oneBuffer (dataStarted .direction) (dataStarted .container) .answer ≡ Refused BegunOverGranted 11
