@@ -60,7 +60,7 @@ responseGranted = record { direction = 1; container = withBytes (grantsResponses
 abbrev pub dataStarted : log.Entry
 dataStarted = record { direction = 0; container = withBytes dataAtG9 }
 
--- receivers with one buffer for RSP and one for shared DAT
+-- the fresh ledger of receivers with one buffer for RSP and one for shared DAT
 abbrev pub oneBuffer : Ledger
 oneBuffer = freshLedger 0 (receiverWith 1) (receiverWith 1)
 

@@ -11,7 +11,8 @@ use Rattle.history.specs.Calls.{Auditor}
 abbrev pub SameContainers : {A : Type 0} → Trace (Entry A) → Trace (Entry A) → Type 0
 SameContainers t u = (d : Direction) → containersOf d t ≡ containersOf d u
 
--- entries in which the containers a pass in direction 0 and the containers b in direction 1, either of the two next at any time
+-- "However the directions are interleaved": entries in which the containers a pass in direction 0 and the containers b in direction 1,
+-- either of the two next at any time
 pub data Interleaves {A : Type 0} : Trace A → Trace A → Trace (Entry A) → Type 0 where
   none : Interleaves start start start
   next0 : {a b : Trace A} {t : Trace (Entry A)} (c : A) → Interleaves a b t → Interleaves (a ▷ c) b (t ▷ record { direction = direction0; container = c })

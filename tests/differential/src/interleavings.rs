@@ -7,7 +7,8 @@ use model::ledger::{Ledger, DIRECTIONS};
 use crate::logs::{self, Entry, Log};
 use crate::random::Random;
 
-const SHARES: usize = 10;
+/// Direction 1 is tried first in some of so many tries.
+const TRIES: usize = 10;
 
 /// A log that the model accepts, and the model's ledger behind it.
 pub struct Accepted {
@@ -49,10 +50,10 @@ fn interleave(random: &mut Random, log: &Log) -> Option<Accepted> {
     for entry in &log.entries {
         waiting[usize::from(entry.direction)].push_back(entry);
     }
-    let share = random.pick(&[1, 5, 9]);
+    let some = random.pick(&[1, 5, 9]);
     let mut entries = Vec::new();
     while entries.len() < log.entries.len() {
-        let first = usize::from(random.below(SHARES) < share);
+        let first = usize::from(random.below(TRIES) < some);
         let (direction, next) = [first, 1 - first].into_iter().find_map(|direction| {
             let entry = waiting[direction].front()?;
             let next = ledger.audit(direction as u32, &entry.container).ok()?;

@@ -328,17 +328,21 @@ fn compare_audit(tally: &mut Tally, program: &str, bytes: &[u8], part: usize) {
     }
 }
 
-/// Compares what two accepted orders of the same containers end with.
+/// Compares what two accepted orders of the same containers end with: the proved code by its reports, the model by its ledger.
 fn compare_interleavings(random: &mut Random, tally: &mut Tally) {
     let Some([one, other]) = interleavings::pair(random) else { return };
     tally.pairs += 1;
-    let [audited, again] = [&one, &other].map(|run| proved::audit(&run.log.numbers, &run.log.entry_bytes()));
-    if audited.accepted != one.log.entries.len() || audited != again {
-        tally.differ("c2c_audit of two orders", &other.log.bytes(), &format!("{audited:?}"), &format!("{again:?}"));
+    let expected = run_model(&one.log);
+    for order in [&one, &other] {
+        let audited = proved::audit(&order.log.numbers, &order.log.entry_bytes());
+        if audited != expected {
+            let what = "c2c_audit of one of two orders";
+            tally.differ(what, &order.log.bytes(), &format!("{expected:?}"), &format!("{audited:?}"));
+        }
     }
     if one.ledger != other.ledger {
-        let what = "the model's ledger of two orders";
-        tally.differ(what, &other.log.bytes(), &format!("{:?}", one.ledger), &format!("{:?}", other.ledger));
+        let [first, second] = [&one, &other].map(|order| format!("model's ledger {:?}", order.ledger));
+        tally.differ("the model on two orders", &other.log.bytes(), &first, &second);
     }
 }
 
