@@ -3,6 +3,7 @@ pub mod Order
 pub mod Codes
 pub mod Tables
 pub mod PickLaws
+pub mod ReorderLaws
 pub mod PartLaws
 pub mod ZeroLaws
 pub mod Fill

@@ -1,2 +1,3 @@
 pub mod Pick
 pub mod Parts
+pub mod Reordering
