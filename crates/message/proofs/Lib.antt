@@ -1,3 +1,4 @@
 pub mod HeadLaws
 pub mod PlaceLaws
+pub mod KindLaws
 pub mod HeadCases

@@ -2,13 +2,14 @@
 -- bounded. Assumes nothing.
 use Prim.Native.Nat.{ℕ, _≤_, _<_}
 use mathlib.Core.Path.{_≡_}
-use mathlib.Core.Bool.{true, false, _&&_, _||_, not}
+use mathlib.Core.Bool.{Bool, true, false, _&&_, _||_, not}
 use mathlib.Core.List.{List, _++_}
+use mathlib.Core.Logic.{_⊎_, inl, inr, ⊎-elim}
 use native.Mathlib.Omega.{arith}
 use lib.ListN.{length, List·getD-append}
-use lib.Dec.{T, eqb, leb}
+use lib.Dec.{T, eqb, leb, eqb→eq}
 use Rattle.lists.proofs.PickLaws.{pick-both}
-use Rattle.lists.proofs.Tests.{T-left, T-right, true-T, T-true}
+use Rattle.lists.proofs.Tests.{T-left, T-right, true-T, T-true, or-cases}
 use Rattle.container.specs.Layout.{Format, wide}
 use Rattle.message.specs.Heads.{typeOf, msgSize, isMisc, resp, resp2, miscU, linkStatus}
 use Rattle.message.specs.Places.{placed, miscsBy, responsesBy}
@@ -17,13 +18,24 @@ use Rattle.message.specs.Places.{placed, miscsBy, responsesBy}
 pub placed-append : (m z : List ℕ) (fm : Format) (g : ℕ) → 1 < length m → placed fm g (m ++ z) ≡ placed fm g m
 placed-append m z fm g h = let p : 0 < length m = omega arith in rw (List·getD-append m z 0 0 p, List·getD-append m z 0 1 h)
 
--- what is placed in a narrow granule fits in it
-pub placed-fits : (fm : Format) (g : ℕ) (m : List ℕ) → wide fm g ≡ false → placed fm g m ≡ true → leb (msgSize m) (fm .size g) ≡ true
-placed-fits fm g m w p =
-    let q : T (wide fm g || ((eqb (typeOf m) resp || eqb (typeOf m) miscU) && leb (msgSize m) (fm .size g))) =
-    T-left (wide fm g || ((eqb (typeOf m) resp || eqb (typeOf m) miscU) && leb (msgSize m) (fm .size g))) (not (isMisc m linkStatus) || eqb g 0) (true-T (placed fm g m) p) in
-    let r : T ((eqb (typeOf m) resp || eqb (typeOf m) miscU) && leb (msgSize m) (fm .size g)) = rw w at q in
-    T-true (leb (msgSize m) (fm .size g)) (T-right (eqb (typeOf m) resp || eqb (typeOf m) miscU) (leb (msgSize m) (fm .size g)) r)
+-- what is placed in a narrow granule is a Resp or a MiscU that fits in it
+module _ (fm : Format) (g : ℕ) (m : List ℕ) (w : wide fm g ≡ false) (p : placed fm g m ≡ true) where
+  abbrev short : Bool
+  short = eqb (typeOf m) resp || eqb (typeOf m) miscU
+
+  abbrev fits : Bool
+  fits = leb (msgSize m) (fm .size g)
+
+  short-fits : T (short && fits)
+  short-fits = rw w at (T-left (wide fm g || (short && fits)) (not (isMisc m linkStatus) || eqb g 0) (true-T (placed fm g m) p))
+
+  pub placed-fits : leb (msgSize m) (fm .size g) ≡ true
+  placed-fits = T-true fits (T-right short fits short-fits)
+
+  pub placed-short : (typeOf m ≡ resp) ⊎ (typeOf m ≡ miscU)
+  placed-short =
+      ⊎-elim (λ (a : T (eqb (typeOf m) resp)). inl (eqb→eq (typeOf m) resp a)) (λ (a : T (eqb (typeOf m) miscU)). inr (eqb→eq (typeOf m) miscU a))
+      (or-cases (eqb (typeOf m) resp) (eqb (typeOf m) miscU) (T-left short fits short-fits))
 
 -- a message counts for at most one MiscU and at most two responses
 pub miscs-most : (t : ℕ) → miscsBy t ≤ 1
