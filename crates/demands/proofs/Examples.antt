@@ -1,13 +1,13 @@
--- The marked examples, and two orders of the same containers, by computation. Assumes nothing.
+-- The marked examples, what lies beneath a longer message, and two orders of the same containers, by computation. Assumes nothing.
 use mathlib.Core.Path.{refl}
 use Rattle.record.specs.Number.{number, readNumber}
 use Rattle.record.specs.Records.{faultFrom, listFault}
 use Rattle.reader.specs.Cells.{cells, carryAfter, endings, startings}
 use Rattle.reader.specs.Checking.{granuleChecks, groupChecks, containerChecks}
 use Rattle.reader.specs.Reading.{stateChecks, readChecks, nextReader, records, reading}
-use Rattle.writer.specs.Plan.{plan}
-use Rattle.writer.specs.Laying.{setAll, layCells, containerOf, filled}
-use Rattle.writer.specs.Filling.{callChecks, fillFault, fillBytes}
+use Rattle.writer.specs.Plan.{plan, cursorLast}
+use Rattle.writer.specs.Laying.{setAll, layCells, containerOf, filled, owesAfter, usedOf}
+use Rattle.writer.specs.Filling.{callChecks, fillFault, filling, fillBytes}
 use Rattle.ledger.specs.Pools.{capacitiesOk, allMessages, allGrants, paidTo, grantedTo, grantsIn}
 use Rattle.ledger.specs.Audit.{poolsOk, begun, finished, granted, heldChecks, roomChecks, auditChecks, row, nextLedger, auditing}
 use Rattle.history.specs.Trace.{start}
@@ -15,6 +15,7 @@ use Rattle.history.specs.Link.{direction0, direction1}
 use Rattle.history.specs.Interleaving.{SameContainers}
 use Rattle.demands.specs.LogTap.{tapOf}
 use Rattle.demands.specs.Marked.{Marked}
+use Rattle.demands.specs.Beneath.{Beneath}
 use Rattle.demands.specs.Interleaving.{startsBetween, startsLast, Orders}
 
 pub marked : Marked
@@ -36,6 +37,11 @@ marked = record {
   m9-broken = refl;
   m10 = refl;
 }
+
+-- what lies beneath a longer message
+pub beneath : Beneath
+unfolding number readNumber faultFrom listFault cells carryAfter endings startings granuleChecks groupChecks containerChecks stateChecks readChecks nextReader records reading plan cursorLast setAll layCells containerOf filled owesAfter usedOf callChecks fillFault filling fillBytes
+beneath = record { under-g5 = refl; under-g5-read = refl; in-x = refl; activation = refl; under-g11 = refl; under-g11-bytes = refl }
 
 -- the orders in which a start and two grants pass
 pub orders : Orders

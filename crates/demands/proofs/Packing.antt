@@ -5,6 +5,8 @@ use mathlib.Core.List.{List}
 use lib.ListN.{length}
 use Rattle.container.specs.Layout.{formatOf}
 use Rattle.container.specs.declared.grant.Grant.{Grant}
+use Rattle.message.proofs.HeadLaws.{is-message}
+use Rattle.message.proofs.KindLaws.{pays-charged}
 use Rattle.record.specs.Records.{recordsOf}
 use Rattle.reader.specs.Keeps.{endedTo}
 use Rattle.reader.specs.Reading.{carried, records}
@@ -18,9 +20,9 @@ use Rattle.writer.specs.declared.writer.Writer.{Writer}
 use Rattle.writer.specs.declared.writer.Answer.the-variants.{Filled}
 use Rattle.writer.proofs.AnswerLaws.{filling-sound}
 use Rattle.writer.proofs.Bound.{within-n, within-2n}
-use Rattle.writer.proofs.LegalLaws.{plan-legal}
+use Rattle.writer.proofs.LegalLaws.{plan-legal, plan-beneath}
 use Rattle.writer.proofs.OneWayLaws.{one-way-exactly}
-use Rattle.writer.proofs.Return.{return-of-messages, list-returned}
+use Rattle.writer.proofs.Return.{out-so-far, list-returned}
 use Rattle.demands.specs.Demand2.{Demand2, Laid}
 
 -- the records of a container are those of the messages that end in it, by their last granules
@@ -40,6 +42,7 @@ one-way w l n c u e =
       owes = owesAfter fm n t l;
       twelve = k .0;
       legal = λ j m b. plan-legal (w .format) n l t j m b;
+      beneath = λ j m b narrow. plan-beneath (w .format) n l t j m b narrow;
       way = k .1;
       bytes = rw (r .0);
       next = rw (r .0);
@@ -51,6 +54,7 @@ demand2 = record {
   in-order = in-order;
   one-way = one-way;
   returned = list-returned;
-  so-far = λ f cs ns used w small h. let r = return-of-messages f cs ns used w small h in record { reader = r .reader; out = r .out; readings = r .readings; same = r .same };
+  so-far = out-so-far;
+  kinds = λ m h. pays-charged m (is-message m h);
   bound = λ f l ms small hb short e a. (within-n f l ms small hb short e a, within-2n f l ms small hb short e a);
 }

@@ -1,24 +1,26 @@
 -- Demand 2: reading is exact, the writer's way is the one way, and what was written is read back.
 use Prim.Native.Nat.{ℕ, _*_, _≤_, _<_}
 use mathlib.Core.Path.{_≡_}
-use mathlib.Core.Bool.{true}
-use mathlib.Core.List.{List, [], _++_}
+use mathlib.Core.Bool.{true, false}
+use mathlib.Core.List.{List, []}
 use mathlib.Core.Logic.{_↔_}
 use lib.ListN.{length}
 use Rattle.lists.specs.Parts.{IsBytes}
-use Rattle.container.specs.Layout.{formatOf}
+use Rattle.container.specs.Layout.{formatOf, wide}
 use Rattle.container.specs.Grants.{headerGrant}
 use Rattle.container.specs.declared.grant.Grant.{Grant}
+use Rattle.message.specs.Heads.{isMessage}
+use Rattle.message.specs.Kinds.{PaysAsCharged}
 use Rattle.record.specs.Records.{recordsOf, AllMessages}
 use Rattle.reader.specs.Cells.{Cell}
 use Rattle.reader.specs.Keeps.{Keeps, endedTo}
-use Rattle.reader.specs.Reading.{readerOk, readerWith, carried, records, reading}
+use Rattle.reader.specs.Reading.{readerOk, carried, records, reading}
 use Rattle.reader.specs.declared.reader.Reader.{Reader}
 use Rattle.reader.specs.declared.reader.Answer.the-variants.{Done}
 use Rattle.writer.specs.Laying.{containerOf}
-use Rattle.writer.specs.OneWay.{Way, mayStart, KeepsWith}
+use Rattle.writer.specs.OneWay.{Way, mayStart, mayLie, KeepsWith, KeepsBeneath}
 use Rattle.writer.specs.Filling.{tailOf, writerWith, filling, fillBytes}
-use Rattle.writer.specs.Calls.{Filling, FillingLeft, UsedUp, Reading, underWay}
+use Rattle.writer.specs.Calls.{Filling, FillingLeft, UsedUp, AllOut, OutSoFar}
 use Rattle.writer.specs.declared.writer.Writer.{Writer}
 use Rattle.writer.specs.declared.writer.Answer.the-variants.{Filled}
 
@@ -29,16 +31,12 @@ pub record Laid (w : Writer) (l : List ℕ) (n : Grant) (c : List ℕ) (u : ℕ)
   pub twelve : length cells ≡ 12
   -- legal means that the container so far, with the message there, keeps every placement rule
   pub legal : (j : ℕ) (m : List ℕ) → j < 12 → (mayStart (formatOf (w .format)) n cells j m ≡ true) ↔ KeepsWith (formatOf (w .format)) n cells j m
+  -- and beneath a longer message, that it is a Resp or a MiscU, but no Activation, with which the container so far keeps them
+  pub beneath : (j : ℕ) (m : List ℕ) → j < 12 → wide (formatOf (w .format)) j ≡ false
+      → (mayLie (formatOf (w .format)) n cells j m ≡ true) ↔ KeepsBeneath (formatOf (w .format)) n cells j m
   pub way : Way (formatOf (w .format)) n l cells u owes 0 (tailOf w) 0
   pub bytes : fillBytes w l n c ≡ containerOf (formatOf (w .format)) n cells
   pub next : filling w l n (length c) .writer ≡ writerWith (w .format) owes
-
--- what a fresh reader makes of containers: the records handed out and the last reader
-pub record ReadBack (f : ℕ) (cs : List (List ℕ)) (ns : List Grant) (used : List ℕ) (w : Writer) : Type 0 where
-  pub reader : Reader
-  pub out : List ℕ
-  pub readings : Reading (readerWith f []) cs ns out reader
-  pub same : used ≡ out ++ underWay reader w
 
 pub record Demand2 : Type 0 where
   -- "From a valid state and with the room our paper names, a container of either format is read exactly when it keeps the CHI C2C
@@ -50,11 +48,13 @@ pub record Demand2 : Type 0 where
   -- "The writer fills each container in the one way the paper fixes."
   pub one-way : (w : Writer) (l : List ℕ) (n : Grant) (c : List ℕ) (u : ℕ) → filling w l n (length c) .answer ≡ Filled u → Laid w l n c u
   -- "Once a writer started fresh has used up a list and owes no tail, reading its containers in order from a fresh state gives the same
-  -- messages in the same order."
+  -- messages in the same order", which document 02's K8 reads as "each once, with those that pay one kind [..] in their order"
   pub returned : (f : ℕ) (l : List ℕ) (cs : List (List ℕ)) (ns : List Grant) (w : Writer) → f < 2
-      → FillingLeft (writerWith f []) l cs ns (length l) w → length (tailOf w) ≡ 0 → (s : Reader) × Reading (readerWith f []) cs ns l s
+      → FillingLeft (writerWith f []) l cs ns (length l) w → length (tailOf w) ≡ 0 → AllOut f cs ns l
   -- before that, and with any list at each call: what has come out and what is under way are what was used
-  pub so-far : (f : ℕ) (cs : List (List ℕ)) (ns : List Grant) (used : List ℕ) (w : Writer) → f < 2 → Filling (writerWith f []) cs ns used w → ReadBack f cs ns used w
+  pub so-far : (f : ℕ) (cs : List (List ℕ)) (ns : List Grant) (used : List ℕ) (w : Writer) → f < 2 → Filling (writerWith f []) cs ns used w → OutSoFar f cs ns used w
+  -- the kinds that order them are those of the pools that the audit charges
+  pub kinds : (m : List ℕ) → isMessage m ≡ true → PaysAsCharged m
   -- document 01: from fresh and with zero grants, n messages are all finished within 2n containers; within n, too
   pub bound : (f : ℕ) (l : List ℕ) (ms : List (List ℕ)) → f < 2 → IsBytes l → length l ≤ 4096 → l ≡ recordsOf ms → AllMessages ms
       → UsedUp f l (length ms) × UsedUp f l (2 * length ms)

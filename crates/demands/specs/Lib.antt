@@ -4,4 +4,5 @@ pub mod Tap
 pub mod Demand3
 pub mod LogTap
 pub mod Marked
+pub mod Beneath
 pub mod Interleaving

@@ -1,5 +1,5 @@
 -- Laws of lists in another order. Assumes nothing.
-use Prim.Native.Nat.{ℕ, suc, _+_}
+use Prim.Native.Nat.{ℕ, _+_}
 use mathlib.Core.Path.{_≡_, refl, sym, ap, _∙_, subst}
 use mathlib.Core.Bool.{Bool, true, false, _&&_}
 use mathlib.Core.List.{List, [], _∷_, _++_, append-assoc}
@@ -79,3 +79,8 @@ swapped classes x y apart = record {
   each-once = λ test. once-swapped (test x) (test y) x y;
   in-order = λ k. order-swapped (classes k x) (classes k y) x y (apart k);
 }
+
+-- two elements that have a class in common never do
+pub never-passes : {A : Type 0} (classes : ℕ → A → Bool) (x y : A) (k : ℕ) → classes k x ≡ true → classes k y ≡ true
+    → Reordered classes (x ∷ y ∷ []) (y ∷ x ∷ []) → x ≡ y
+never-passes {A = A} classes x y k p q r = let e : x ∷ y ∷ [] ≡ y ∷ x ∷ [] = rw (p, q) at (r .in-order k) in cc

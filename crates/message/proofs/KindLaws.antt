@@ -1,19 +1,19 @@
 -- The kinds that messages pay are those of their charges, and a longer message pays none that a message in a smaller granule pays.
 -- Assumes nothing.
 use Prim.Native.Nat.{ℕ, zero, suc, _+_, _/_, _%_, _≤_, _<_}
-use mathlib.Core.Path.{_≡_, refl, sym, ap, _∙_, subst}
+use mathlib.Core.Path.{_≡_, refl, sym, ap, subst}
 use mathlib.Core.Bool.{Bool, true, false, _&&_, _||_}
 use mathlib.Core.List.{List, [], _∷_}
 use mathlib.Core.Logic.{_⊎_, inl, inr, ⊎-elim, _↔_}
 use native.Mathlib.Omega.{arith}
 use lib.ListN.{length, getD}
-use lib.Dec.{eqb, leb, ltb, leb→le}
+use lib.Dec.{eqb, leb, leb→le}
 use borrow.Author.Tests.{eqb-true, ne-eqb, le-leb, ltb-true}
 use Rattle.lists.proofs.Tests.{cases, never-both, and-left}
 use Rattle.lists.proofs.Tables.{every-at}
 use Rattle.lists.proofs.PickLaws.{pick-both, pick-by}
 use Rattle.container.specs.Layout.{Format, wide}
-use Rattle.message.specs.Heads.{typeOf, opOf, sizeBy, opSizes, classOf, msgSize, flagBounds, flagBound, flagsOk, pushOk, activationOk, grantOk, resp, miscU}
+use Rattle.message.specs.Heads.{typeOf, opOf, sizeBy, opSizes, classOf, flagBounds, flagBound, flagsOk, pushOk, activationOk, grantOk, resp, miscU}
 use Rattle.message.specs.Places.{placed}
 use Rattle.message.specs.Charges.{sharedCrdt, resPlane, reqPool, datPool, pushPool, paidBy, listed, charges}
 use Rattle.message.specs.Kinds.{req, dat, free, paysBy, pays, poolKind, charged, PaysAsCharged}

@@ -27,15 +27,15 @@ use Rattle.record.specs.Records.{recordsOf, AllMessages}
 use Rattle.record.proofs.RecordLaws.{list-exactly}
 use Rattle.reader.specs.Cells.{Cell, after, ended, carryAfter, endings}
 use Rattle.reader.specs.Checking.{oneMisc, fourResponses}
-use Rattle.reader.specs.Reading.{readerWith}
 use Rattle.reader.specs.declared.reader.Reader.{Reader}
-use Rattle.writer.specs.Plan.{startCell, onCell, legal, Cursor, Given, give, cursorAfter, plan, cursorLast, cursorOf}
+use Rattle.writer.specs.Plan.{startCell, onCell, legal, beneath, Cursor, Given, nothing, give, cursorAfter, plan, cursorLast, cursorOf}
 use Rattle.writer.specs.Laying.{filled, owesAfter, usedOf}
 use Rattle.writer.specs.Filling.{tailOf, writerOk, writerWith, callChecks, fillFault, filling, fillBytes}
-use Rattle.writer.specs.Calls.{Fills, Filling, Reading, FillingList, none, then, zeroGrant, UsedUp}
+use Rattle.writer.specs.Calls.{AllOut, Fills, Filling, FillingList, none, then, zeroGrant, UsedUp}
 use Rattle.writer.specs.declared.writer.Writer.{Writer}
-use Rattle.writer.proofs.Simulation.{Link, idle, busy, begun, message-most, short-ended, piece-ended, Left, sizeLength, is-next, legal-placed, Steps, give-next, give-on, give-over, step-followed}
+use Rattle.writer.proofs.Simulation.{Link, idle, busy, begun, message-most, short-ended, piece-ended, Left, sizeLength, is-next, legal-placed, beneath-legal, beneath-ended, Steps, give-next, give-on, give-beneath, give-over, give-last, step-followed}
 use Rattle.writer.proofs.Run.{Ran}
+use Rattle.writer.proofs.Shuffled.{shuffled-length}
 use Rattle.writer.proofs.Return.{all-returned}
 use Rattle.writer.proofs.RoundTrip.{link-most, tail-of, ran, is-filled, Linked, list-left}
 
@@ -83,14 +83,26 @@ module _ (fm : Format) (n : Grant) (l : List ℕ) where
           let s = next v q in
           ends-by k g m w v q
           (⊎-elim (λ (x : 20 < length t). inr (later (after fm g (onCell 20 t) m) (drop 20 t) (s .rest) at _ (s .follows .link) (s .left) (rw d (omega arith)) (rw d (omega arith))))
-          (λ (x : length t ≤ 20). inl (rw (piece-ended m t h a c pm pt fm g ms e (omega arith)) (omega arith))) (lt-or-le 20 (length t)))
+          (λ (x : length t ≤ 20). inl (rw (piece-ended m t h a c pm pt fm g e (omega arith)) (omega arith))) (lt-or-le 20 (length t)))
 
       in-narrow : Later → wide fm g ≡ false → 0 < length (endings fm g (plan fm n l (suc k) g w) m)
-      in-narrow later e =
-          let q = give-over fm n l g at es t pt e in
-          let b′ : length t ≤ 20 * (0 + wides fm k (g + 1)) = rw e at b in
-          let s = next _ q in
-          ends-by k g m w _ q (inr (later m t (s .rest) at _ (s .follows .link) (s .left) pt (omega arith)))
+      in-narrow later e = by ms left next
+        where
+          b′ : length t ≤ 20 * (0 + wides fm k (g + 1))
+          b′ = rw e at b
+
+          over : (xs : List (List ℕ)) → Left l at xs → ((v : Given) → give fm n l g w ≡ v → Steps fm l g m t at xs v) → give fm n l g w ≡ nothing fm g w
+              → 0 < length (endings fm g (plan fm n l (suc k) g w) m)
+          over xs i step q = let s = step _ q in ends-by k g m w _ q (inr (later m t (s .rest) at _ (s .follows .link) (s .left) pt (omega (arith, b′))))
+
+          by : (xs : List (List ℕ)) → Left l at xs → ((v : Given) → give fm n l g w ≡ v → Steps fm l g m t at xs v)
+              → 0 < length (endings fm g (plan fm n l (suc k) g w) m)
+          by [] i step = over [] i step (give-last fm n l g at es t pt e i)
+          by (x ∷ xs) i step =
+              ⊎-elim (λ (y : beneath fm n g es x ≡ true).
+              ends-by k g m w _ (give-beneath fm n l g at es t x xs pt e i y)
+              (inl (rw (beneath-ended m t h a c pm pt fm g e x (is-next l at x xs i) (legal-placed fm n g es x (beneath-legal fm n g es x y))) (omega arith))))
+              (λ (y : beneath fm n g es x ≡ false). over (x ∷ xs) i step (give-over fm n l g at es t x xs pt e i y)) (cases (beneath fm n g es x))
 
 -- a message that comes first in a container may start in G0
 pub legal-first : (fm : Format) (m : List ℕ) → wide fm 0 ≡ true → legal fm zeroGrant 0 [] m ≡ true
@@ -133,7 +145,7 @@ module _ (f : ℕ) (l x : List ℕ) (ms : List (List ℕ)) (left : Left l 0 (x �
   short-ends a =
       let fits : length x ≤ fm .size 0 = rw twenty a in
       let p = legal-placed fm zeroGrant 0 [] x (legal-first fm x (wide-first f)) in
-      rw (take-all (fm .size 0) x fits, short-ended fm 0 x ms (is-next l 0 x ms left) fits p) (omega arith)
+      rw (take-all (fm .size 0) x fits, short-ended fm 0 x (is-next l 0 x ms left) fits p) (omega arith)
 
   long-ends : 20 < length x → 0 < length (endings fm 1 (plan fm zeroGrant l 11 1 (cursorAfter 0 (cursorOf []) v)) (after fm 0 (v .cell) []))
   long-ends a =
@@ -193,7 +205,8 @@ module _ (f : ℕ) (n : Grant) (m t l : List ℕ) (ms : List (List ℕ)) (small 
 fewer : (f : ℕ) (m t l : List ℕ) (ms : List (List ℕ)) (link : Link m t) (left : Left l 0 ms) → 0 < unfinished m t ms
     → (w : Cursor) → (r : Ran (formatOf f) l 0 m t 0 ms (plan (formatOf f) zeroGrant l 12 0 (cursorOf t)) w)
     → unfinished (carryAfter (formatOf f) 0 (plan (formatOf f) zeroGrant l 12 0 (cursorOf t)) m) (w .owes) (r .rest) < unfinished m t ms
-fewer f m t l ms link left p w r = let e = simp length-append at (ap length (r .out)) in omega (arith, finishes-one f m t l ms link left p)
+fewer f m t l ms link left p w r =
+    let e = simp length-append at (shuffled-length (r .out)) in let d = simp length-append at (ap length (r .split)) in omega (arith, finishes-one f m t l ms link left p)
 
 -- ---- progress
 
@@ -268,7 +281,7 @@ one-less : (f : ℕ) (m t l : List ℕ) (ms : List (List ℕ)) (link : Link m t)
     → unfinished (carryAfter (formatOf f) 0 (plan (formatOf f) zeroGrant l 12 0 (cursorOf t)) m) (w .owes) (r .rest) ≤ unfinished m t ms - 1
 one-less f m t l ms link left w r =
     ⊎-elim (λ (p : 0 < unfinished m t ms). omega (arith, fewer f m t l ms link left p w r))
-    (λ (p : unfinished m t ms ≤ 0). let e = simp length-append at (ap length (r .out)) in omega arith) (lt-or-le 0 (unfinished m t ms))
+    (λ (p : unfinished m t ms ≤ 0). let e = simp length-append at (shuffled-length (r .out)) in let d = simp length-append at (ap length (r .split)) in omega arith) (lt-or-le 0 (unfinished m t ms))
 
 module _ (f : ℕ) (l : List ℕ) (k at : ℕ) (w : Writer) (g : Going f l k at w) where
   -- one fill more
@@ -360,7 +373,7 @@ list-fills {w = w} {l = l} {n = n} (then {cs = cs} {at = at} {w₁ = w₁} {w₂
 
 -- and a new reader hands out all n messages of these containers
 pub returned-within-n : (f : ℕ) (l : List ℕ) (ms : List (List ℕ)) → f < 2 → IsBytes l → length l ≤ 4096 → l ≡ recordsOf ms → AllMessages ms
-    → (r : UsedUp f l (length ms)) × ((s : Reader) × Reading (readerWith f []) (r .containers) (replicate (length (r .containers)) zeroGrant) (recordsOf ms) s)
+    → (r : UsedUp f l (length ms)) × AllOut f (r .containers) (replicate (length (r .containers)) zeroGrant) (recordsOf ms)
 returned-within-n f l ms small hb short e a =
     let r = within-n f l ms small hb short e a in
     let ns = replicate (length (r .containers)) zeroGrant in

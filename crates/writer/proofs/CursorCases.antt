@@ -19,7 +19,7 @@ use Rattle.message.specs.Heads.{typeOf, opOf}
 use Rattle.record.specs.Records.{firstOf, messageOf}
 use Rattle.record.specs.declared.list.First.{First}
 use Rattle.record.specs.declared.list.First.the-variants.{Empty, Bad, Whole}
-use Rattle.writer.specs.Holding.{legalBy, owedOf, Sane, cursorEmpty, cursorOn, cursorStart, cursorFirst, bytesFirst, cursorNext, bytesNext}
+use Rattle.writer.specs.Holding.{mayBy, owedOf, Sane, cursorEmpty, cursorOn, cursorTaken, cursorFirst, bytesFirst, cursorNext, bytesNext}
 use Rattle.writer.specs.declared.cursor.Cursor.{Cursor}
 
 -- the value of a bit of MsgStart
@@ -74,21 +74,21 @@ Written fm g c p b r d = (r ≡ p) × (d ≡ put (start g) (pad (fm .size g) b) 
 
 module _ (fm : Format) (n : Grant) (l : List ℕ) (g : ℕ) (p : Cursor) (c : List ℕ) (r : Cursor) (d : List ℕ) where
   -- a whole record, whose type and op are k and o, and whether it may start
-  module _ (s e k o : ℕ) (b : Bool) (ek : k ≡ typeOf (messageOf (drop (p .at) l) s e)) (eo : o ≡ opOf (messageOf (drop (p .at) l) s e)) (eb : b ≡ legalBy fm n g (p .group) k o) where
+  module _ (s e k o : ℕ) (b : Bool) (ek : k ≡ typeOf (messageOf (drop (p .at) l) s e)) (eo : o ≡ opOf (messageOf (drop (p .at) l) s e)) (eb : b ≡ mayBy fm n g p k o) where
     abbrev found : List ℕ
     found = messageOf (drop (p .at) l) s e
 
-    legal-is : legalBy fm n g (p .group) (typeOf found) (opOf found) ≡ b
-    legal-is = ap (λ (x : ℕ). legalBy fm n g (p .group) x (opOf found)) (sym ek) ∙ ap (λ (x : ℕ). legalBy fm n g (p .group) k x) (sym eo) ∙ sym eb
+    may-is : mayBy fm n g p (typeOf found) (opOf found) ≡ b
+    may-is = ap (λ (x : ℕ). mayBy fm n g p x (opOf found)) (sym ek) ∙ ap (λ (x : ℕ). mayBy fm n g p k x) (sym eo) ∙ sym eb
 
     pub message-left : not b ≡ true → Written fm g c (cursorEmpty g p) [] r d → Written fm g c (cursorFirst fm n l g p (Whole s e)) (bytesFirst fm n l g p (Whole s e)) r d
-    message-left t w = let f : legalBy fm n g (p .group) (typeOf found) (opOf found) ≡ false = legal-is ∙ not-true b t in rw f w
+    message-left t w = let f : mayBy fm n g p (typeOf found) (opOf found) ≡ false = may-is ∙ not-true b t in rw f w
 
-    pub message-started : not b ≡ false → Written fm g c (cursorStart (fm .size g) g p s e k) (take (fm .size g) (messageOf (drop (p .at) l) s e)) r d
+    pub message-started : not b ≡ false → Written fm g c (cursorTaken (fm .size g) g p s e k) (take (fm .size g) (messageOf (drop (p .at) l) s e)) r d
         → Written fm g c (cursorFirst fm n l g p (Whole s e)) (bytesFirst fm n l g p (Whole s e)) r d
     message-started t w =
-        let f : legalBy fm n g (p .group) (typeOf found) (opOf found) ≡ true = legal-is ∙ not-false b t in
-        rw f (w .0 ∙ ap (λ (x : ℕ). cursorStart (fm .size g) g p s e x) ek, w .1)
+        let f : mayBy fm n g p (typeOf found) (opOf found) ≡ true = may-is ∙ not-false b t in
+        rw f (w .0 ∙ ap (λ (x : ℕ). cursorTaken (fm .size g) g p s e x) ek, w .1)
 
   -- the first record f of what is left of the list
   module _ (f : First) (e : firstOf (drop (p .at) l) ≡ f) where
@@ -116,6 +116,7 @@ module _ (fm : Format) (n : Grant) (l : List ℕ) (g : ℕ) (p : Cursor) (c : Li
     unfolding cursorNext bytesNext
     next-on z k w = rw (ne-eqb (p .left) 0 z, eq-eqb (fm .size g) 20 k) w
 
-    pub next-empty : (p .left ≡ 0 → ⊥) → (fm .size g ≡ 20 → ⊥) → Written fm g c (cursorEmpty g p) [] r d → Written fm g c (cursorNext fm n t l g p) (bytesNext fm n t l g p) r d
+    pub next-over : (p .left ≡ 0 → ⊥) → (fm .size g ≡ 20 → ⊥) → Written fm g c (cursorFirst fm n l g p (firstOf (drop (p .at) l))) (bytesFirst fm n l g p (firstOf (drop (p .at) l))) r d
+        → Written fm g c (cursorNext fm n t l g p) (bytesNext fm n t l g p) r d
     unfolding cursorNext bytesNext
-    next-empty z k w = rw (ne-eqb (p .left) 0 z, ne-eqb (fm .size g) 20 k) w
+    next-over z k w = rw (ne-eqb (p .left) 0 z, ne-eqb (fm .size g) 20 k) w

@@ -21,7 +21,8 @@ use Rattle.record.specs.declared.list.First.{First}
 use Rattle.record.specs.declared.list.First.the-variants.{Empty, Bad, Whole}
 use Rattle.reader.specs.Cells.{Cell}
 use Rattle.reader.specs.Checking.{populated, noGap, sumOf, oneMisc, fourResponses, groupChecks}
-use Rattle.writer.specs.Plan.{emptyCell, startCell, onCell, groupOk, legal, Cursor, Given, nothing, startNext, give, groupAfter, cursorAfter, plan}
+use Rattle.writer.specs.Plan.{emptyCell, startCell, onCell, groupOk, legal, beneath, Cursor, Given, nothing, startNext, give, groupAfter, cursorAfter, plan}
+use Rattle.writer.proofs.Simulation.{beneath-legal}
 use Rattle.writer.proofs.GroupLaws.{allPopulated, all-more, sum-more, gap-more, ok-both, group-checks}
 
 -- ---- one more cell
@@ -77,10 +78,19 @@ module _ (fm : Format) (n : Grant) (g : ℕ) (narrow-last : wide fm g ≡ false 
         full = λ _ _. all-more es (onCell (fm .size g) t) ∙ rw f;
       }
 
+      under : wide fm g ≡ false → (x : First) → Grown g es (startNext fm l g w (beneath fm n g es) (λ m. t) x)
+      under x Empty = stays-empty t (inl x) (h .ok)
+      under x Bad = stays-empty t (inl x) (h .ok)
+      under x (Whole s f) =
+          let m = messageOf (drop at l) s f in
+          ⊎-elim (λ (y : beneath fm n g es m ≡ true).
+          rw y (record { ok = starts-legal m (at + f) (beneath-legal fm n g es m y) .ok; full = λ not-last some. absurd (not-last (narrow-last x)) }))
+          (λ (y : beneath fm n g es m ≡ false). rw y (stays-empty t (inl x) (h .ok))) (cases (beneath fm n g es m))
+
       busy : eqb (length t) 0 ≡ false → Grown g es (give fm n l g w)
       busy e =
           let some = eqb-false (length t) 0 e in
-          ⊎-elim (λ (x : wide fm g ≡ true). rw (e, x) (goes-on (h .full (omega arith)))) (λ (x : wide fm g ≡ false). rw (e, x) (stays-empty t (inl x) (h .ok)))
+          ⊎-elim (λ (x : wide fm g ≡ true). rw (e, x) (goes-on (h .full (omega arith)))) (λ (x : wide fm g ≡ false). rw (e, x) (under x (firstOf (drop at l))))
           (cases (wide fm g))
 
       idle : eqb (length t) 0 ≡ true → Grown g es (give fm n l g w)
@@ -89,7 +99,7 @@ module _ (fm : Format) (n : Grant) (g : ℕ) (narrow-last : wide fm g ≡ false 
           empty : Grown g es (nothing fm g w)
           empty = stays-empty t (inr (eqb-true (length t) 0 e)) (h .ok)
 
-          next : (x : First) → Grown g es (startNext fm n l g w x)
+          next : (x : First) → Grown g es (startNext fm l g w (legal fm n g es) (λ m. drop (fm .size g) m) x)
           next Empty = empty
           next Bad = empty
           next (Whole s f) =

@@ -1,7 +1,7 @@
 -- The numbers that the code keeps follow the plan, granule by granule. Assumes nothing.
 use Prim.Native.Nat.{ℕ, zero, suc, _+_, _-_, _%_, _^_, _≤_, _<_}
 use mathlib.Core.Path.{_≡_, refl, sym, ap, _∙_, subst}
-use mathlib.Core.Bool.{Bool, true, false}
+use mathlib.Core.Bool.{Bool, true, false, _&&_, not}
 use mathlib.Core.List.{List, [], _∷_, _++_, append-nil}
 use mathlib.Core.Logic.{⊎-elim}
 use native.Mathlib.Omega.{arith}
@@ -17,7 +17,7 @@ use Rattle.lists.proofs.PartLaws.{length-part, getD-pad}
 use Rattle.container.specs.Layout.{Format, formatOf, wide}
 use Rattle.container.specs.declared.grant.Grant.{Grant}
 use Rattle.container.proofs.Formats.{lawful-of}
-use Rattle.message.specs.Heads.{typeOf, opOf}
+use Rattle.message.specs.Heads.{typeOf, opOf, isMisc, activation}
 use Rattle.message.specs.Places.{responses, responsesBy, miscs, miscsBy}
 use Rattle.record.specs.Records.{firstOf, messageOf}
 use Rattle.record.specs.declared.list.First.{First}
@@ -25,9 +25,9 @@ use Rattle.record.specs.declared.list.First.the-variants.{Empty, Bad, Whole}
 use Rattle.reader.specs.Cells.{Cell}
 use Rattle.reader.specs.Checking.{populated, starting, sumOf}
 use Rattle.writer.specs.Plan as planned
-use Rattle.writer.specs.Plan.{Given, emptyCell, startCell, onCell, legal, nothing, startNext, give, groupAfter, cursorAfter, plan, cursorLast, cursorOf}
+use Rattle.writer.specs.Plan.{Given, emptyCell, startCell, onCell, legal, beneath, nothing, startNext, give, groupAfter, cursorAfter, plan, cursorLast, cursorOf}
 use Rattle.writer.specs.Laying.{startBits, headerBytes, setAll, layCells, containerOf, filled, owesAfter, usedOf}
-use Rattle.writer.specs.Holding.{groupNext, legalBy, owedOf, Sane, cursorEmpty, cursorOn, cursorStart, cursorFirst, bytesFirst, cursorNext, bytesNext, cursorAt, laidTo}
+use Rattle.writer.specs.Holding.{groupNext, legalBy, beneathBy, owedOf, Sane, cursorEmpty, cursorOn, cursorUsed, cursorStart, cursorFirst, bytesFirst, cursorNext, bytesNext, cursorAt, laidTo}
 use Rattle.writer.specs.declared.group.Group.{Group}
 use Rattle.writer.specs.declared.cursor.Cursor.{Cursor}
 use Rattle.writer.proofs.PlanLaws.{cursor-last-more, plan-more, plan-length, bits-more, lay-more}
@@ -146,22 +146,36 @@ module _ (fm : Format) (n : Grant) (t l : List ℕ) (g : ℕ) (wide-enough : 0 <
         starts = refl;
       }
 
-  step-first : (r : First) → Steps fm t l g p w (cursorFirst fm n l g p r) (bytesFirst fm n l g p r) (startNext fm n l g w r)
-  step-first Empty = step-nothing
-  step-first Bad = step-nothing
-  step-first (Whole s e) =
+  step-used : (s e : ℕ)
+      → Steps fm t l g p w (cursorUsed g p e (typeOf (messageOf (drop (p .at) l) s e))) (take (fm .size g) (messageOf (drop (p .at) l) s e)) (record { cell = startCell (fm .size g) (messageOf (drop (p .at) l) s e); owes = owedOf t l p; at = p .at + e })
+  step-used s e = record { next = record { owes = refl; at = refl; group = step-start s e .next .group }; bytes = refl; starts = refl }
+
+  same-legal : (m : List ℕ) → legalBy fm n g (p .group) (typeOf m) (opOf m) ≡ legal fm n g es m
+  same-legal m = ap (λ (d : Group). legalBy fm n g d (typeOf m) (opOf m)) q ∙ legal-same fm n g es m wide-enough
+
+  step-first : eqb (p .left) 0 ≡ true → (r : First)
+      → Steps fm t l g p w (cursorFirst fm n l g p r) (bytesFirst fm n l g p r) (startNext fm l g w (legal fm n g es) (λ m. drop (fm .size g) m) r)
+  step-first none Empty = step-nothing
+  step-first none Bad = step-nothing
+  step-first none (Whole s e) =
       let m = messageOf (drop (p .at) l) s e in
-      pick-same (Steps fm t l g p w) (legalBy fm n g (p .group) (typeOf m) (opOf m)) (legal fm n g es m)
-      (ap (λ (d : Group). legalBy fm n g d (typeOf m) (opOf m)) q ∙ legal-same fm n g es m wide-enough)
-      (λ _. step-start s e)
-      (λ _. step-nothing)
+      rw none (pick-same (Steps fm t l g p w) (legalBy fm n g (p .group) (typeOf m) (opOf m)) (legal fm n g es m) (same-legal m) (λ _. step-start s e) (λ _. step-nothing))
+
+  step-beneath : eqb (p .left) 0 ≡ false → (r : First)
+      → Steps fm t l g p w (cursorFirst fm n l g p r) (bytesFirst fm n l g p r) (startNext fm l g w (beneath fm n g es) (λ m. owedOf t l p) r)
+  step-beneath some Empty = step-nothing
+  step-beneath some Bad = step-nothing
+  step-beneath some (Whole s e) =
+      let m = messageOf (drop (p .at) l) s e in
+      rw some (pick-same (Steps fm t l g p w) (beneathBy fm n g (p .group) (typeOf m) (opOf m)) (beneath fm n g es m)
+      (ap (λ (b : Bool). not (isMisc m activation) && b) (same-legal m)) (λ _. step-used s e) (λ _. step-nothing))
 
   step-given : Steps fm t l g p w (cursorNext fm n t l g p) (bytesNext fm n t l g p) (give fm n l g w)
   unfolding cursorNext bytesNext
   step-given =
       pick-same (Steps fm t l g p w) (eqb (p .left) 0) (eqb (length (owedOf t l p)) 0) (ap (λ (k : ℕ). eqb k 0) (sym (owed-length t l g p h)))
-      (λ _. step-first (firstOf (drop (p .at) l)))
-      (λ some. pick-same (Steps fm t l g p w) (wide fm g) (wide fm g) refl (λ broad. step-on broad (eqb-false (p .left) 0 some)) (λ _. step-nothing))
+      (λ none. step-first none (firstOf (drop (p .at) l)))
+      (λ some. pick-same (Steps fm t l g p w) (wide fm g) (wide fm g) refl (λ broad. step-on broad (eqb-false (p .left) 0 some)) (λ _. step-beneath some (firstOf (drop (p .at) l))))
 
 -- a cursor by what it owes and where it is in the list
 cursor-same : (w : planned.Cursor) (o : List ℕ) (a : ℕ) → o ≡ w .owes → a ≡ w .at → _≡_ {A = planned.Cursor} (record { owes = o; at = a; group = w .group }) w

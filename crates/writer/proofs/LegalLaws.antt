@@ -1,24 +1,26 @@
 -- A granule is legal exactly where the container so far, with the message there, keeps every placement rule. Assumes nothing.
 use Prim.Native.Nat.{ℕ, zero, suc, _+_, _-_, _<_}
-use mathlib.Core.Path.{_≡_, refl}
+use mathlib.Core.Path.{_≡_, refl, ap, _∙_}
 use mathlib.Core.Bool.{Bool, true, false, _&&_, _||_, not}
 use mathlib.Core.List.{List, [], _∷_, _++_}
 use mathlib.Core.Logic.{_↔_}
 use native.Mathlib.Omega.{arith}
 use lib.ListN.{length, take, drop, take-append-drop}
 use lib.Seq.{length-take-le}
+use borrow.Author.Tests.{not-true}
 use Rattle.lists.proofs.Tests.{never-both, and-left, and-right}
 use Rattle.cause.specs.Checks.{Pass}
-use Rattle.container.specs.Layout.{Format, formatOf}
+use Rattle.container.specs.Layout.{Format, formatOf, wide}
 use Rattle.container.specs.Grants.{noCounts}
 use Rattle.container.specs.declared.grant.Grant.{Grant}
 use Rattle.container.proofs.Formats.{lawful-of}
 use Rattle.message.specs.Heads.{isMisc, activation}
 use Rattle.message.specs.Places.{placed}
+use Rattle.message.proofs.PlaceLaws.{placed-short}
 use Rattle.reader.specs.Cells.{Cell}
 use Rattle.reader.specs.Checking.{nonePopulated, groupChecks}
-use Rattle.writer.specs.Plan.{startCell, groupOk, plan, cursorOf}
-use Rattle.writer.specs.OneWay.{groupAt, mayStart, emptiesFrom, soFar, withStart, KeepsWith}
+use Rattle.writer.specs.Plan.{startCell, groupOk, neverEarly, plan, cursorOf}
+use Rattle.writer.specs.OneWay.{groupAt, mayStart, mayLie, emptiesFrom, soFar, withStart, KeepsWith, KeepsBeneath}
 use Rattle.writer.proofs.PlanLaws.{plan-length}
 use Rattle.writer.proofs.GroupLaws.{front-pass, more-exactly}
 use Rattle.writer.proofs.Groups.{packed-none, groups-pass}
@@ -79,3 +81,11 @@ module _ (f : ℕ) (n : Grant) (l t : List ℕ) (j : ℕ) where
 
   pub plan-legal : (m : List ℕ) → j < 12 → (mayStart fm n laid j m ≡ true) ↔ KeepsWith fm n laid j m
   plan-legal m b = legal-exactly fm n laid j m (plan-length fm n l 12 0 (cursorOf t)) b plan-so-far
+
+  -- and what lies beneath is a Resp or a MiscU, no Activation, that keeps them
+  pub plan-beneath : (m : List ℕ) → j < 12 → wide fm j ≡ false → (mayLie fm n laid j m ≡ true) ↔ KeepsBeneath fm n laid j m
+  plan-beneath m b narrow = (
+    λ t. let keeps = plan-legal m b .0 (and-right (not (neverEarly m)) (mayStart fm n laid j m) t) in
+        record { short = placed-short fm j m narrow (keeps .place); not-early = not-true (isMisc m activation) (and-left (not (neverEarly m)) (mayStart fm n laid j m) t); keeps = keeps },
+    λ h. ap (λ (x : Bool). not x && mayStart fm n laid j m) (h .not-early) ∙ plan-legal m b .1 (h .keeps),
+  )

@@ -1,3 +1,4 @@
+pub mod Shuffled
 pub mod Simulation
 pub mod Run
 pub mod GroupLaws

@@ -1,7 +1,7 @@
 -- The writer's one way, as document 01 says it record by record, is the way of the plan. Assumes nothing.
 use Prim.Native.Nat.{ℕ, zero, suc, _+_, _-_, _*_, _/_, _%_, _≤_, _<_}
 use mathlib.Core.Path.{_≡_, refl, sym, ap, _∙_, subst}
-use mathlib.Core.Bool.{true, false}
+use mathlib.Core.Bool.{Bool, true, false}
 use mathlib.Core.List.{List, [], _∷_, _++_}
 use mathlib.Core.Logic.{⊎-elim, _↔_}
 use native.Mathlib.Omega.{arith}
@@ -24,7 +24,7 @@ use Rattle.record.specs.declared.list.First.the-variants.{Empty, Bad, Whole}
 use Rattle.reader.specs.Cells.{Cell}
 use Rattle.writer.specs.Plan.{emptyCell, startCell, onCell, Cursor, Given, nothing, startNext, give, groupAfter, cursorAfter, plan, cursorLast, cursorOf}
 use Rattle.writer.specs.Laying.{usedOf, owesAfter}
-use Rattle.writer.specs.OneWay.{cellOf, groupAt, mayStart, NoneLegal, Empties, Way, goes-on, passes-over, starts, stops, ends}
+use Rattle.writer.specs.OneWay.{cellOf, groupAt, mayStart, mayLie, NoneLegal, Empties, Way, goes-on, puts-beneath, passes-over, starts, stops, ends}
 use Rattle.writer.proofs.PlanLaws.{cursor-last-more, plan-length}
 
 module _ (fm : Format) (n : Grant) (l : List ℕ) (es : List Cell) (used : ℕ) (owes : List ℕ) where
@@ -41,7 +41,8 @@ module _ (fm : Format) (n : Grant) (l : List ℕ) (es : List Cell) (used : ℕ) 
   widen : {g′ at : ℕ} {t : List ℕ} (g : ℕ) → g′ ≡ g + 1 → g < 12 → length t ≡ 0 → cellOf es g ≡ emptyCell (fm .size g)
       → ((start end : ℕ) → firstOf (drop at l) ≡ Whole start end → mayStart fm n es g (messageOf (drop at l) start end) ≡ false) → From g′ t at → From g t at
   widen g e b z c here (goes-on a p w d r) = absurd (omega arith)
-  widen g e b z c here (passes-over a p w d r) = absurd (omega arith)
+  widen g e b z c here (puts-beneath s f a p w q may d r) = absurd (omega arith)
+  widen g e b z c here (passes-over a p w none d r) = absurd (omega arith)
   widen {at = at} g e b z c here (starts h s f a d z′ q may none empty cell r) =
       starts {g = g} h s f (omega arith) d z q may
       (widen-none g h (messageOf (drop at l) s f) (here s f q) (subst (λ (i : ℕ). NoneLegal fm n es i h (messageOf (drop at l) s f)) e none))
@@ -68,7 +69,18 @@ module _ (fm : Format) (n : Grant) (l : List ℕ) (es : List Cell) (used : ℕ) 
       busy e =
           let d = eqb-false (length t) 0 e in
           ⊎-elim (λ (x : wide fm g ≡ true). goes-on b (omega arith) x (rw (e, x) at c) (rw (e, x) at r))
-          (λ (x : wide fm g ≡ false). passes-over b (omega arith) x (rw (e, x) at c) (rw (e, x) at r)) (cases (wide fm g))
+          (λ (x : wide fm g ≡ false). under x (omega arith) (firstOf (drop at l)) refl (rw (e, x) at c) (rw (e, x) at r)) (cases (wide fm g))
+        where
+          under : wide fm g ≡ false → 0 < length t → (x : First) → firstOf (drop at l) ≡ x
+              → cellOf es g ≡ startNext fm l g w (mayLie fm n es g) (λ m. t) x .cell
+              → From (g + 1) (startNext fm l g w (mayLie fm n es g) (λ m. t) x .owes) (startNext fm l g w (mayLie fm n es g) (λ m. t) x .at) → From g t at
+          under k p Empty q c r = passes-over {g = g} {at = at} {t = t} b p k (λ s f (y : firstOf (drop at l) ≡ Whole s f). let z : _≡_ {A = ℕ} 0 1 = cc in absurd (omega arith)) c r
+          under k p Bad q c r = passes-over {g = g} {at = at} {t = t} b p k (λ s f (y : firstOf (drop at l) ≡ Whole s f). let z : _≡_ {A = ℕ} 0 1 = cc in absurd (omega arith)) c r
+          under k p (Whole s f) q c r =
+              ⊎-elim (λ (y : mayLie fm n es g (messageOf (drop at l) s f) ≡ true). puts-beneath s f b p k q y (rw y at c) (rw y at r))
+              (λ (y : mayLie fm n es g (messageOf (drop at l) s f) ≡ false).
+              passes-over {g = g} {at = at} {t = t} b p k (λ s′ f′ (j : firstOf (drop at l) ≡ Whole s′ f′). let es′ : s ≡ s′ = cc in let ef : f ≡ f′ = cc in rw (← es′, ← ef) y) (rw y at c) (rw y at r))
+              (cases (mayLie fm n es g (messageOf (drop at l) s f)))
 
       idle : eqb (length t) 0 ≡ true → From g t at
       idle e = by (firstOf (drop at l)) refl (rw e at c) (rw e at r)
@@ -76,8 +88,10 @@ module _ (fm : Format) (n : Grant) (l : List ℕ) (es : List Cell) (used : ℕ) 
           z : length t ≡ 0
           z = eqb-true (length t) 0 e
 
-          by : (x : First) → firstOf (drop at l) ≡ x → cellOf es g ≡ startNext fm n l g w x .cell
-              → From (g + 1) (startNext fm n l g w x .owes) (startNext fm n l g w x .at) → From g t at
+          by : (x : First) → firstOf (drop at l) ≡ x
+              → cellOf es g ≡ startNext fm l g w (mayStart fm n es g) (λ m. drop (fm .size g) m) x .cell
+              → From (g + 1) (startNext fm l g w (mayStart fm n es g) (λ m. drop (fm .size g) m) x .owes) (startNext fm l g w (mayStart fm n es g) (λ m. drop (fm .size g) m) x .at)
+              → From g t at
           by Empty q c r = widen g refl b z c (λ s f k. let y : _≡_ {A = ℕ} 0 1 = cc in absurd (omega arith)) r
           by Bad q c r = widen g refl b z c (λ s f k. let y : _≡_ {A = ℕ} 0 1 = cc in absurd (omega arith)) r
           by (Whole s f) q c r =
@@ -86,6 +100,13 @@ module _ (fm : Format) (n : Grant) (l : List ℕ) (es : List Cell) (used : ℕ) 
               (λ (y : mayStart fm n es g (messageOf (drop at l) s f) ≡ false).
               widen g refl b z (rw y at c) (λ s′ f′ k. let es′ : s ≡ s′ = cc in let ef : f ≡ f′ = cc in rw (← es′, ← ef) y) (rw y at r))
               (cases (mayStart fm n es g (messageOf (drop at l) s f)))
+
+-- where the next message may not start, the granule stays empty
+start-none : (fm : Format) (l : List ℕ) (g : ℕ) (w : Cursor) (may : List ℕ → Bool) (rest : List ℕ → List ℕ) (x : First) → firstOf (drop (w .at) l) ≡ x
+    → ((s f : ℕ) → firstOf (drop (w .at) l) ≡ Whole s f → may (messageOf (drop (w .at) l) s f) ≡ false) → startNext fm l g w may rest x ≡ nothing fm g w
+start-none fm l g w may rest Empty q none = refl
+start-none fm l g w may rest Bad q none = refl
+start-none fm l g w may rest (Whole s f) q none = rw (none s f q)
 
 -- the cells of the group one granule further on
 group-next : (es : List Cell) (g : ℕ) → g < length es → groupAfter g (groupAt es g) (cellOf es g) ≡ groupAt es (suc g)
@@ -191,12 +212,7 @@ module _ (fm : Format) (n : Grant) (l : List ℕ) (es : List Cell) (used : ℕ) 
   -- a granule that stays empty
   give-empty : (g : ℕ) (t : List ℕ) (at : ℕ) → length t ≡ 0 → ((s f : ℕ) → firstOf (drop at l) ≡ Whole s f → mayStart fm n es g (messageOf (drop at l) s f) ≡ false)
       → give fm n l g (cursorWith g t at) ≡ nothing fm g (cursorWith g t at)
-  give-empty g t at z h = rw (eq-eqb (length t) 0 z) (by (firstOf (drop at l)) refl)
-    where
-      by : (x : First) → firstOf (drop at l) ≡ x → startNext fm n l g (cursorWith g t at) x ≡ nothing fm g (cursorWith g t at)
-      by Empty q = refl
-      by Bad q = refl
-      by (Whole s f) q = rw (h s f q)
+  give-empty g t at z h = rw (eq-eqb (length t) 0 z) (start-none fm l g (cursorWith g t at) (mayStart fm n es g) (λ m. drop (fm .size g) m) (firstOf (drop at l)) refl h)
 
   skip : (d k g : ℕ) (t : List ℕ) (at : ℕ) → g + (d + k) ≡ 12 → length t ≡ 0
       → ((s f : ℕ) → firstOf (drop at l) ≡ Whole s f → NoneLegal fm n es g (g + d) (messageOf (drop at l) s f)) → Empties fm es g (g + d)
@@ -223,9 +239,13 @@ module _ (fm : Format) (n : Grant) (l : List ℕ) (es : List Cell) (used : ℕ) 
   follow (goes-on b p w c r) zero e = absurd (omega arith)
   follow (goes-on {g = g} {at = at} {t = t} b p w c r) (suc k) e =
       back g k t at (record { cell = onCell (fm .size g) t; owes = drop (fm .size g) t; at = at }) e (rw (ne-eqb (length t) 0 (λ z. omega arith), w)) c (follow r k (omega arith))
-  follow (passes-over b p w c r) zero e = absurd (omega arith)
-  follow (passes-over {g = g} {at = at} {t = t} b p w c r) (suc k) e =
-      back g k t at (nothing fm g (cursorWith g t at)) e (rw (ne-eqb (length t) 0 (λ z. omega arith), w)) c (follow r k (omega arith))
+  follow (puts-beneath s f b p w q may c r) zero e = absurd (omega arith)
+  follow (puts-beneath {g = g} {at = at} {t = t} s f b p w q may c r) (suc k) e =
+      back g k t at (record { cell = startCell (fm .size g) (messageOf (drop at l) s f); owes = t; at = at + f }) e
+      (rw (ne-eqb (length t) 0 (λ z. omega arith), w, q, may)) c (follow r k (omega arith))
+  follow (passes-over b p w none c r) zero e = absurd (omega arith)
+  follow (passes-over {g = g} {at = at} {t = t} b p w none c r) (suc k) e =
+      back g k t at (nothing fm g (cursorWith g t at)) e (rw (ne-eqb (length t) 0 (λ z. omega arith), w) (start-none fm l g (cursorWith g t at) (mayLie fm n es g) (λ m. t) (firstOf (drop at l)) refl none)) c (follow r k (omega arith))
   follow (starts {g = g} {at = at} {t = t} h s f a b z q may none empty cell r) k e =
       let there : g + (h - g) ≡ h = omega arith in
       let long : (h - g) + suc (11 - h) ≡ k = omega arith in

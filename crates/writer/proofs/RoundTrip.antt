@@ -2,7 +2,7 @@
 use Prim.Native.Nat.{ℕ, zero, suc, _+_, _-_, _*_, _%_, _≤_, _<_}
 use mathlib.Core.Path.{_≡_, refl, sym, ap, _∙_, subst}
 use mathlib.Core.Bool.{Bool, true, false, _&&_, _||_, not}
-use mathlib.Core.List.{List, [], _∷_, _++_, append-assoc, append-cancel-right, append-nil}
+use mathlib.Core.List.{List, [], _∷_, _++_, append-cancel-right}
 use mathlib.Core.Logic.{⊎-elim}
 use native.Mathlib.Omega.{arith}
 use lib.ListN.{length, take, drop, replicate, length-append, take-append-drop}
@@ -22,7 +22,7 @@ use Rattle.container.proofs.Formats.{lawful-of}
 use Rattle.message.specs.Heads.{msgSize, wellHeaded, isMisc, activation}
 use Rattle.message.specs.Places.{placed}
 use Rattle.message.proofs.HeadLaws.{headed-append}
-use Rattle.record.specs.Records.{recordOf, recordsOf, listFault}
+use Rattle.record.specs.Records.{recordsOf, listFault}
 use Rattle.record.proofs.RecordLaws.{records-append, list-exactly}
 use Rattle.reader.specs.Cells.{Cell, owed, after, cells, carryAfter, endings}
 use Rattle.reader.specs.Checking.{starting, activations, sumOf, cellChecks, granuleChecks, groupChecks, lastChecks, quiet, endsHere, containerChecks}
@@ -32,13 +32,14 @@ use Rattle.reader.specs.declared.reader.Step.{Step}
 use Rattle.reader.specs.declared.reader.Answer.the-variants as read
 use Rattle.reader.proofs.CarryLaws.{with-valid}
 use Rattle.reader.proofs.AnswerLaws.{read-done}
-use Rattle.writer.specs.Plan.{startCell, groupOk, legal, Cursor, Given, give, cursorAfter, plan, cursorLast, cursorOf}
+use Rattle.writer.specs.Plan.{startCell, groupOk, legal, beneath, Cursor, Given, give, cursorAfter, plan, cursorLast, cursorOf}
 use Rattle.writer.specs.Laying.{filled, owesAfter, usedOf}
 use Rattle.writer.specs.Filling.{tailOf, writerWith, callChecks, fillFault, filling, fillBytes}
 use Rattle.writer.specs.Calls.{Fills, Reads, underWay}
 use Rattle.writer.specs.declared.writer.Writer.{Writer}
 use Rattle.writer.specs.declared.writer.Answer.the-variants as answer
-use Rattle.writer.proofs.Simulation.{Link, idle, busy, begun, message-most, size-m, owed-m, start-head, legal-placed, Left, is-next, give-next, give-not, give-none, give-on, give-over, step-followed}
+use Rattle.writer.proofs.Shuffled.{Shuffled, unchanged, shuffled-on}
+use Rattle.writer.proofs.Simulation.{Link, idle, busy, begun, message-most, size-m, owed-m, start-head, legal-placed, Left, is-next, beneath-legal, give-next, give-not, give-none, give-on, give-beneath, give-over, give-last, step-followed}
 use Rattle.writer.proofs.Run.{Written, Ran, plan-followed, cells-shown}
 use Rattle.writer.proofs.PlanLaws.{plan-length}
 use Rattle.writer.proofs.Groups.{packed-none, groups-pass}
@@ -76,8 +77,13 @@ module _ (fm : Format) (n : Grant) (l : List ℕ) (counts : noCounts n ≡ false
       ⊎-elim (λ y. subst Quiet (sym (give-next fm n l g at es x ms left y))
       (rw (start-head fm g x (is-next l at x ms left) (legal-placed fm n g es x y) activation, legal-quiet g es x y)))
       (λ y. subst Quiet (sym (give-not fm n l g at es x ms left y)) refl) (cases (legal fm n g es x))
-  give-quiet g at es m t ms (busy h a b pm pt) left =
-      ⊎-elim (λ w. subst Quiet (sym (give-on fm n l g at es t pt w)) refl) (λ w. subst Quiet (sym (give-over fm n l g at es t pt w)) refl) (cases (wide fm g))
+  give-quiet g at es m t [] (busy h a b pm pt) left =
+      ⊎-elim (λ w. subst Quiet (sym (give-on fm n l g at es t pt w)) refl) (λ w. subst Quiet (sym (give-last fm n l g at es t pt w left)) refl) (cases (wide fm g))
+  give-quiet g at es m t (x ∷ ms) (busy h a b pm pt) left =
+      ⊎-elim (λ w. subst Quiet (sym (give-on fm n l g at es t pt w)) refl)
+      (λ w. ⊎-elim (λ y. subst Quiet (sym (give-beneath fm n l g at es t x ms pt w left y))
+      (rw (start-head fm g x (is-next l at x ms left) (legal-placed fm n g es x (beneath-legal fm n g es x y)) activation, legal-quiet g es x (beneath-legal fm n g es x y))))
+      (λ y. subst Quiet (sym (give-over fm n l g at es t x ms pt w left y)) refl) (cases (beneath fm n g es x))) (cases (wide fm g))
 
   plan-quiet : (k g : ℕ) (m : List ℕ) (ms : List (List ℕ)) (w : Cursor) → Link m (w .owes) → Left l (w .at) ms → sumOf activations (plan fm n l k g w) ≡ 0
   unfolding plan
@@ -206,22 +212,14 @@ module _ (f : ℕ) (n : Grant) (low : n .rp < 8) (allowed : planeAllowed n ≡ t
 
 -- ---- the records that come out
 
-under-way : (f : ℕ) (m t : List ℕ) → underWay (readerWith f m) (writerWith f t) ≡ recordsOf (begun m t)
-under-way f m t =
-    rw (tail-of f t, carried-of f m)
-    (⊎-elim (λ (e : eqb (length t) 0 ≡ true). rw e) (λ (e : eqb (length t) 0 ≡ false). rw e (sym (append-nil (recordOf (m ++ t))))) (cases (eqb (length t) 0)))
+under-way : (f : ℕ) (m t : List ℕ) → underWay (readerWith f m) (writerWith f t) ≡ begun m t
+under-way f m t = rw (tail-of f t, carried-of f m)
 
--- what is begun and to come at the level of messages, and at that of their records
-records-out : (es a b rest ms : List (List ℕ)) (l : List ℕ) (u : ℕ) → es ++ (b ++ rest) ≡ a ++ ms → drop u l ≡ recordsOf rest → l ≡ recordsOf ms
-    → recordsOf es ++ recordsOf b ≡ recordsOf a ++ take u l
-records-out es a b rest ms l u e er em =
-    append-cancel-right (recordsOf es ++ recordsOf b) (recordsOf a ++ take u l) (drop u l)
-    (append-assoc (recordsOf es) (recordsOf b) (drop u l)
-    ∙ ap (λ (x : List ℕ). recordsOf es ++ (recordsOf b ++ x)) er
-    ∙ sym (records-append es (b ++ rest) ∙ ap (λ (x : List ℕ). recordsOf es ++ x) (records-append b rest))
-    ∙ ap recordsOf e ∙ records-append a ms
-    ∙ ap (λ (x : List ℕ). recordsOf a ++ x) (sym em ∙ sym (take-append-drop u l))
-    ∙ sym (append-assoc (recordsOf a) (take u l) (drop u l)))
+-- the records used are those of the messages taken
+records-taken : (taken rest ms : List (List ℕ)) (l : List ℕ) (u : ℕ) → ms ≡ taken ++ rest → drop u l ≡ recordsOf rest → l ≡ recordsOf ms → take u l ≡ recordsOf taken
+records-taken taken rest ms l u e er em =
+    append-cancel-right (take u l) (recordsOf taken) (drop u l)
+    (take-append-drop u l ∙ em ∙ ap recordsOf e ∙ records-append taken rest ∙ ap (λ (x : List ℕ). recordsOf taken ++ x) (sym er))
 
 -- ---- a fill that is accepted
 
@@ -278,13 +276,15 @@ pub record Linked (f : ℕ) (s : Reader) (w : Writer) : Type 0 where
   pub link : Link carry tail
 
 -- the reading of a container that a writer w filled, by a reader s: what comes out and what is under way then is what was under way
--- and what was used of the list
+-- and what was taken of the list, in another order
 pub record Read (f : ℕ) (s : Reader) (w : Writer) (l c : List ℕ) (n : Grant) (u : ℕ) (w′ : Writer) : Type 0 where
   pub next : Reader
-  pub out : List ℕ
-  pub reads : Reads s c n out next
+  pub out : List (List ℕ)
+  pub taken : List (List ℕ)
+  pub reads : Reads s c n (recordsOf out) next
   pub linked : Linked f next w′
-  pub same : out ++ underWay next w′ ≡ underWay s w ++ take u l
+  pub used : take u l ≡ recordsOf taken
+  pub same : Shuffled (formatOf f) (out ++ underWay next w′) (underWay s w ++ taken)
 
 -- a list that is accepted is one of records
 pub list-left : (l : List ℕ) → IsBytes l → listFault l ≡ Sound → (ms : List (List ℕ)) × Left l 0 ms
@@ -301,15 +301,14 @@ module _ (f : ℕ) (small : f < 2) (m t l c : List ℕ) (n : Grant) (u : ℕ) (w
       let es = endings (formatOf f) 0 (plan (formatOf f) n l 12 0 (cursorOf t)) m in
       record {
         next = readerWith f m′;
-        out = recordsOf es;
+        out = es;
+        taken = r .taken;
         reads = subst (λ (x : List ℕ). Reads (readerWith f m) x n (recordsOf es) (readerWith f m′)) (h .container) (box-reads f n (h .low) (h .allowed) m t l ms link left small);
         linked = record { format = small; carry = m′; tail = t′; reader = refl; writer = sym (h .next); link = r .link };
+        used = records-taken (r .taken) (r .rest) ms l u (r .split) (subst (λ (k : ℕ). drop k l ≡ recordsOf (r .rest)) (h .used) (r .left .records)) (left .records);
         same =
-            ap (λ (x : Writer). recordsOf es ++ underWay (readerWith f m′) x) (sym (h .next))
-            ∙ ap (λ (x : List ℕ). recordsOf es ++ x) (under-way f m′ t′)
-            ∙ records-out es (begun m t) (begun m′ t′) (r .rest) ms l u (r .out)
-            (subst (λ (k : ℕ). drop k l ≡ recordsOf (r .rest)) (h .used) (r .left .records)) (left .records)
-            ∙ ap (λ (x : List ℕ). x ++ take u l) (sym (under-way f m t));
+            shuffled-on (unchanged (ap (λ (x : Writer). es ++ underWay (readerWith f m′) x) (sym (h .next)) ∙ ap (λ (x : List (List ℕ)). es ++ x) (under-way f m′ t′)))
+            (shuffled-on (r .out) (unchanged (ap (λ (x : List (List ℕ)). x ++ r .taken) (sym (under-way f m t)))));
       }
 
 pub fill-read : (f : ℕ) (s : Reader) (w : Writer) (l c : List ℕ) (n : Grant) (u : ℕ) (w′ : Writer)

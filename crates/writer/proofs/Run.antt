@@ -1,8 +1,8 @@
 -- The granules of a container one after the other: the reader follows the writer's plan. Assumes nothing.
 use Prim.Native.Nat.{ℕ, zero, suc, _+_, _<_}
-use mathlib.Core.Path.{_≡_, refl, ap, _∙_}
+use mathlib.Core.Path.{_≡_, refl, sym, ap, _∙_}
 use mathlib.Core.Bool.{_&&_}
-use mathlib.Core.List.{List, [], _∷_, _++_, append-assoc}
+use mathlib.Core.List.{List, [], _∷_, _++_, append-assoc, append-nil}
 use mathlib.Core.Logic.{_⊎_, inl, inr, ⊎-elim}
 use native.Mathlib.Omega.{arith}
 use lib.ListN.{length}
@@ -13,6 +13,7 @@ use Rattle.container.specs.declared.grant.Grant.{Grant}
 use Rattle.reader.specs.Cells.{Cell, owed, cellAt, after, ended, cells, carryAfter, endings}
 use Rattle.reader.specs.Checking.{cellChecks}
 use Rattle.writer.specs.Plan.{Cursor, Given, give, cursorAfter, plan, cursorLast}
+use Rattle.writer.proofs.Shuffled.{Shuffled, unchanged, shuffled-on, shuffled-through}
 use Rattle.writer.proofs.Simulation.{Link, begun, Left, Steps, step-followed}
 
 -- a cell of the writer, with m read before it: as the reader sees it, of its granule's size, and with its rules kept
@@ -29,10 +30,12 @@ Written fm g m (e ∷ es) = WrittenCell fm g m e × Written fm (g + 1) (after fm
 -- the reader behind the cells es from granule g on, and the writer behind them
 pub record Ran (fm : Format) (l : List ℕ) (g : ℕ) (m t : List ℕ) (at : ℕ) (ms : List (List ℕ)) (es : List Cell) (w : Cursor) : Type 0 where
   pub written : Written fm g m es
+  pub taken : List (List ℕ)
   pub rest : List (List ℕ)
+  pub split : ms ≡ taken ++ rest
   pub left : Left l (w .at) rest
   pub link : Link (carryAfter fm g es m) (w .owes)
-  pub out : endings fm g es m ++ (begun (carryAfter fm g es m) (w .owes) ++ rest) ≡ begun m t ++ ms
+  pub out : Shuffled fm (endings fm g es m ++ begun (carryAfter fm g es m) (w .owes)) (begun m t ++ taken)
   pub moved : ((rest ≡ ms) × (w .at ≡ at)) ⊎ (at < w .at)
 
 -- two steps along the list
@@ -45,7 +48,7 @@ module _ (fm : Format) (n : Grant) (l : List ℕ) where
   pub plan-followed : (k g : ℕ) (m : List ℕ) (ms : List (List ℕ)) (w : Cursor) → Link m (w .owes) → Left l (w .at) ms
       → Ran fm l g m (w .owes) (w .at) ms (plan fm n l k g w) (cursorLast fm n l k g w)
   unfolding plan cursorLast carryAfter endings
-  plan-followed zero g m ms w link left = record { written = tt; rest = ms; left = left; link = link; out = refl; moved = inl (refl, refl) }
+  plan-followed zero g m ms w link left = record { written = tt; taken = []; rest = ms; split = refl; left = left; link = link; out = unchanged (sym (append-nil (begun m (w .owes)))); moved = inl (refl, refl) }
   plan-followed (suc k) g m ms w link left =
       joined (step-followed fm n l g (w .at) (w .group) m (w .owes) ms link left)
       (λ rest a b. plan-followed k (g + 1) (after fm g (give fm n l g w .cell) m) rest (cursorAfter g w (give fm n l g w)) a b)
@@ -67,10 +70,16 @@ module _ (fm : Format) (n : Grant) (l : List ℕ) where
           let r = go (s .rest) (f .link) (s .left) in
           record {
             written = (record { on = f .on; long = f .long; fine = f .fine }, r .written);
+            taken = s .taken ++ r .taken;
             rest = r .rest;
+            split = s .split ∙ ap (λ (x : List (List ℕ)). s .taken ++ x) (r .split) ∙ sym (append-assoc (s .taken) (r .taken) (r .rest));
             left = r .left;
             link = r .link;
-            out = append-assoc (ended (v .cell) m) (endings fm (g + 1) es m′) _ ∙ ap (λ (x : List (List ℕ)). ended (v .cell) m ++ x) (r .out) ∙ f .out;
+            out =
+                shuffled-on
+                (shuffled-through (ended (v .cell) m) (begun m′ (v .owes)) (begun m (w .owes) ++ s .taken) (endings fm (g + 1) es m′)
+                (begun (carryAfter fm (g + 1) es m′) (cursorLast fm n l k (g + 1) (cursorAfter g w v) .owes)) (r .taken) (f .out) (r .out))
+                (unchanged (append-assoc (begun m (w .owes)) (s .taken) (r .taken)));
             moved = moved-on (s .moved) (r .moved);
           }
 

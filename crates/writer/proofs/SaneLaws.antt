@@ -1,5 +1,5 @@
 -- The numbers that the code keeps of a writer stay within bounds from granule to granule. Assumes nothing.
-use Prim.Native.Nat.{ℕ, zero, suc, _+_, _-_, _%_, _≤_, _<_}
+use Prim.Native.Nat.{ℕ, zero, suc, _+_, _-_, _%_, _^_, _≤_, _<_}
 use mathlib.Core.Path.{_≡_, refl}
 use mathlib.Core.Bool.{Bool, true, false, _&&_, _||_, not}
 use mathlib.Core.List.{List, [], _∷_}
@@ -29,7 +29,7 @@ use Rattle.record.specs.declared.number.Number.the-variants.{Broken, Value}
 use Rattle.record.specs.declared.list.First.{First}
 use Rattle.record.specs.declared.list.First.the-variants.{Empty, Bad, Whole}
 use Rattle.record.proofs.RecordLaws.{first-within}
-use Rattle.writer.specs.Holding.{groupNext, legalBy, Sane, cursorEmpty, cursorOn, cursorStart, cursorFirst, cursorNext, cursorStarting, cursorAt}
+use Rattle.writer.specs.Holding.{groupNext, legalBy, mayBy, Sane, cursorEmpty, cursorOn, cursorUsed, cursorStart, cursorTaken, cursorFirst, cursorNext, cursorStarting, cursorAt}
 use Rattle.writer.specs.declared.group.Group.{Group}
 use Rattle.writer.specs.declared.cursor.Cursor.{Cursor}
 
@@ -114,19 +114,24 @@ legal-starts fm n g e t o h =
     }
 
 module _ (f : ℕ) (n : Grant) (t l : List ℕ) (short : length t ≤ 100) (fits : length l ≤ 4096) (g : ℕ) (b : g < 12) (p : Cursor) (h : Sane t l g p) where
+  -- what is owed stays owed
+  sane-kept : (at starts : ℕ) (e : Group) → at ≤ length l → starts < 2 ^ suc g → (e .miscs ≤ 2) × (e .responses ≤ 4)
+      → Sane t l (suc g) (record { tail = p .tail; from = p .from; left = p .left; at = at; starts = starts; group = e })
+  sane-kept at starts e used low few = record {
+    within = h .within;
+    granules = h .granules;
+    most = h .most;
+    start-low = h .start-low;
+    used = used;
+    starts-low = low;
+    few = few;
+  }
+
   sane-empty : Sane t l (suc g) (cursorEmpty g p)
   sane-empty =
       let few = h .few in
       let low = h .starts-low in
-      record {
-        within = h .within;
-        granules = h .granules;
-        most = h .most;
-        start-low = h .start-low;
-        used = h .used;
-        starts-low = rw (pow-suc 2 g) (omega arith);
-        few = group-few g (p .group) false 0 0 (omega arith) (omega arith);
-      }
+      sane-kept (p .at) (p .starts) (groupNext g (p .group) false 0 0) (h .used) (rw (pow-suc 2 g) (omega arith)) (group-few g (p .group) false 0 0 (omega arith) (omega arith))
 
   source-length : length (pick (p .tail) t l) ≤ 4096
   source-length = pick-by (λ (s : List ℕ). length s ≤ 4096) (p .tail) (λ _. omega arith) (λ _. fits)
@@ -176,12 +181,25 @@ module _ (f : ℕ) (n : Grant) (t l : List ℕ) (short : length t ≤ 100) (fits
           few = group-few g (p .group) true (miscsBy (typeOf found)) (responsesBy (typeOf found)) (omega arith) (omega arith);
         }
 
+    sane-used : legalBy (formatOf f) n g (p .group) (typeOf found) (opOf found) ≡ true → Sane t l (suc g) (cursorUsed g p e (typeOf found))
+    sane-used ok =
+        let few = legal-starts (formatOf f) n g (p .group) (typeOf found) (opOf found) ok .few in
+        let low = h .starts-low in
+        sane-kept (p .at + e) (p .starts + 2 ^ g) (groupNext g (p .group) true (miscsBy (typeOf found)) (responsesBy (typeOf found))) (r .inside)
+        (rw (pow-suc 2 g) (omega arith)) (group-few g (p .group) true (miscsBy (typeOf found)) (responsesBy (typeOf found)) (omega arith) (omega arith))
+
+    sane-taken : mayBy (formatOf f) n g p (typeOf found) (opOf found) ≡ true → Sane t l (suc g) (cursorTaken (formatOf f .size g) g p s e (typeOf found))
+    sane-taken ok =
+        pick-by (Sane t l (suc g)) (eqb (p .left) 0)
+        (λ none. sane-start-message (rw none at ok))
+        (λ some. sane-used (and-right (not (miscBy (typeOf found) (opOf found) activation)) (legalBy (formatOf f) n g (p .group) (typeOf found) (opOf found)) (rw some at ok)))
+
   sane-first : (r : First) → firstOf (drop (p .at) l) ≡ r → Sane t l (suc g) (cursorFirst (formatOf f) n l g p r)
   sane-first Empty q = sane-empty
   sane-first Bad q = sane-empty
   sane-first (Whole s e) q =
-      pick-by (Sane t l (suc g)) (legalBy (formatOf f) n g (p .group) (typeOf (messageOf (drop (p .at) l) s e)) (opOf (messageOf (drop (p .at) l) s e)))
-      (λ ok. sane-start-message s e (first-record l (p .at) s e (h .used) q) ok)
+      pick-by (Sane t l (suc g)) (mayBy (formatOf f) n g p (typeOf (messageOf (drop (p .at) l) s e)) (opOf (messageOf (drop (p .at) l) s e)))
+      (λ ok. sane-taken s e (first-record l (p .at) s e (h .used) q) ok)
       (λ _. sane-empty)
 
   -- the cursor behind granule g
@@ -189,7 +207,7 @@ module _ (f : ℕ) (n : Grant) (t l : List ℕ) (short : length t ≤ 100) (fits
   unfolding cursorNext
   sane-next =
       pick-by (Sane t l (suc g)) (eqb (p .left) 0) (λ _. sane-first (firstOf (drop (p .at) l)) refl)
-      (λ some. pick-by (Sane t l (suc g)) (wide (formatOf f) g) (λ _. sane-on (eqb-false (p .left) 0 some)) (λ _. sane-empty))
+      (λ some. pick-by (Sane t l (suc g)) (wide (formatOf f) g) (λ _. sane-on (eqb-false (p .left) 0 some)) (λ _. sane-first (firstOf (drop (p .at) l)) refl))
 
 -- the cursor at the start of a container
 pub sane-start : (t l : List ℕ) → length t ≤ 100 → length t % 20 ≡ 0 → Sane t l 0 (cursorStarting t)

@@ -10,9 +10,10 @@ use lib.Seq.{take-all, length-take-le, take-at, drop-at, drop-drop}
 use lib.Dec.{eqb, leb, ltb}
 use borrow.Author.Tests.{lt-ltb, le-leb, lt-leb, ne-eqb, leb-true, leb-false, eqb-true}
 use Rattle.lists.specs.Pick.{pick}
-use Rattle.lists.proofs.Tests.{cases, never-both, and-left}
+use Rattle.lists.proofs.Tests.{cases, never-both, and-left, and-right}
 use Rattle.lists.proofs.PartLaws.{length-pad}
 use Rattle.lists.proofs.ZeroLaws.{zeros-replicate}
+use Rattle.lists.proofs.ReorderLaws.{swapped}
 use Rattle.cause.specs.Checks.{Pass}
 use Rattle.container.specs.Layout.{Format, wide}
 use Rattle.container.specs.Grants.{noCounts}
@@ -27,7 +28,8 @@ use Rattle.record.specs.declared.list.First.the-variants.{Empty, Whole}
 use Rattle.record.proofs.RecordLaws.{first-written, message-some}
 use Rattle.reader.specs.Cells.{Cell, owed, whole, after, ended}
 use Rattle.reader.specs.Checking.{startsAlone, startKnown, startPlaced, startHeaded, restZero, cellChecks}
-use Rattle.writer.specs.Plan.{emptyCell, startCell, onCell, groupOk, legal, Cursor, Given, nothing, give}
+use Rattle.writer.specs.Plan.{emptyCell, startCell, onCell, groupOk, legal, neverEarly, beneath, Cursor, Given, nothing, give}
+use Rattle.writer.proofs.Shuffled.{Shuffled, unchanged}
 
 -- what the reader has of a message and what the writer owes of it: neither, or whole granules of one message, some of each
 pub data Link : List ℕ → List ℕ → Type 0 where
@@ -38,27 +40,27 @@ pub data Link : List ℕ → List ℕ → Type 0 where
 abbrev pub begun : List ℕ → List ℕ → List (List ℕ)
 begun m t = pick (eqb (length t) 0) [] ((m ++ t) ∷ [])
 
--- the reader at a cell e, with m read, t owed and ms to come before it, and o owed and rest to come behind it: it goes on exactly
--- where the cell says so, the cell keeps its rules, and what ends was begun or to come
-pub record Follows (fm : Format) (g : ℕ) (m t : List ℕ) (ms : List (List ℕ)) (e : Cell) (o : List ℕ) (rest : List (List ℕ)) : Type 0 where
+-- the reader at a cell e, with m read and t owed before it, o owed behind it, and the messages us taken there: it goes on exactly
+-- where the cell says so, the cell keeps its rules, and what ends and is begun then was begun or taken
+pub record Follows (fm : Format) (g : ℕ) (m t : List ℕ) (us : List (List ℕ)) (e : Cell) (o : List ℕ) : Type 0 where
   pub on : (ltb 0 (owed m) && wide fm g) ≡ e .goesOn
   pub long : length (e .bytes) ≡ fm .size g
   pub fine : Pass (cellChecks fm g e)
   pub link : Link (after fm g e m) o
-  pub out : ended e m ++ (begun (after fm g e m) o ++ rest) ≡ begun m t ++ ms
+  pub out : Shuffled fm (ended e m ++ begun (after fm g e m) o) (begun m t ++ us)
 
 -- a cell that keeps its five rules
 cell-passes : (fm : Format) (g : ℕ) (e : Cell) → startsAlone e ≡ true → startKnown e ≡ true → startPlaced fm g e ≡ true → startHeaded e ≡ true
     → restZero e ≡ true → Pass (cellChecks fm g e)
-cell-passes fm g e alone known placed headed zero = (alone, (known, (placed, (headed, (zero, tt)))))
+cell-passes fm g e alone known placed headed rest = (alone, (known, (placed, (headed, (rest, tt)))))
 
-idle-nothing : (fm : Format) (g : ℕ) (ms : List (List ℕ)) → Follows fm g [] [] ms (emptyCell (fm .size g)) [] ms
-idle-nothing fm g ms = record {
+idle-nothing : (fm : Format) (g : ℕ) → Follows fm g [] [] [] (emptyCell (fm .size g)) []
+idle-nothing fm g = record {
   on = refl;
   long = length-replicate (fm .size g) 0;
   fine = cell-passes fm g (emptyCell (fm .size g)) refl refl refl refl (zeros-replicate (fm .size g));
   link = idle;
-  out = refl;
+  out = unchanged refl;
 }
 
 -- no message is longer than 120 bytes
@@ -69,7 +71,7 @@ grant-long : (m : List ℕ) → Message m → isMisc m crdtGrant ≡ true → 16
 grant-long m h e = let k : msgSize m ≡ 16 = grant-size m e in let j = h .sized in omega arith
 
 -- a message that ends in the granule that it starts in
-module _ (fm : Format) (g : ℕ) (m : List ℕ) (ms : List (List ℕ)) (h : Message m) (fits : length m ≤ fm .size g) (p : placed fm g m ≡ true) where
+module _ (fm : Format) (g : ℕ) (m : List ℕ) (h : Message m) (fits : length m ≤ fm .size g) (p : placed fm g m ≡ true) where
   abbrev behind : List ℕ
   behind = replicate (fm .size g - length m) 0
 
@@ -94,7 +96,7 @@ module _ (fm : Format) (g : ℕ) (m : List ℕ) (ms : List (List ℕ)) (h : Mess
   pub short-ended : ended short-cell [] ≡ m ∷ []
   short-ended = rw (short-whole, short-size, take-at m behind (length m) refl)
 
-  starts-short : Follows fm g [] [] (m ∷ ms) short-cell [] ms
+  starts-short : Follows fm g [] [] (m ∷ []) short-cell []
   starts-short = record {
     on = refl;
     long = length-pad (fm .size g) m fits;
@@ -103,11 +105,11 @@ module _ (fm : Format) (g : ℕ) (m : List ℕ) (ms : List (List ℕ)) (h : Mess
         (headed-append m behind two (grant-long m h) ∙ h .headed)
         (rw (short-size, drop-at m behind (length m) refl) (zeros-replicate (fm .size g - length m)));
     link = rw short-after idle;
-    out = rw short-ended;
+    out = unchanged (rw short-ended);
   }
 
 -- a message that goes on beyond the granule that it starts in
-module _ (fm : Format) (g : ℕ) (m : List ℕ) (ms : List (List ℕ)) (h : Message m) (w : wide fm g ≡ true) (more : 20 < length m) (p : placed fm g m ≡ true) where
+module _ (fm : Format) (g : ℕ) (m : List ℕ) (h : Message m) (w : wide fm g ≡ true) (more : 20 < length m) (p : placed fm g m ≡ true) where
   abbrev front : List ℕ
   front = take 20 m
 
@@ -142,7 +144,7 @@ module _ (fm : Format) (g : ℕ) (m : List ℕ) (ms : List (List ℕ)) (h : Mess
   length-back : length (drop 20 m) ≡ length m - 20
   length-back = length-drop 20 m
 
-  starts-long : Follows fm g [] [] (m ∷ ms) long-cell (drop 20 m) ms
+  starts-long : Follows fm g [] [] (m ∷ []) long-cell (drop 20 m)
   starts-long = record {
     on = refl;
     long = length-front ∙ sym (eqb-true (fm .size g) 20 w);
@@ -154,7 +156,7 @@ module _ (fm : Format) (g : ℕ) (m : List ℕ) (ms : List (List ℕ)) (h : Mess
     link =
         rw long-after
         (busy {m = front} {t = drop 20 m} (rw both h) (rw length-front) (rw length-back (omega (arith, whole-granules))) (rw length-front (omega arith)) (rw length-back (omega arith)));
-    out = rw (long-after, front-part, ne-eqb (length (drop 20 m)) 0 (λ (e : length (drop 20 m) ≡ 0). omega (arith, length-back)), both);
+    out = unchanged (rw (long-after, front-part, ne-eqb (length (drop 20 m)) 0 (λ (e : length (drop 20 m) ≡ 0). omega (arith, length-back)), both));
   }
 
 -- the writer owes bytes
@@ -171,15 +173,35 @@ module _ (m t : List ℕ) (h : Message (m ++ t)) (a : length m % 20 ≡ 0) (b : 
   some : eqb (length t) 0 ≡ false
   some = ne-eqb (length t) 0 (λ e. omega arith)
 
-  module _ (fm : Format) (g : ℕ) (ms : List (List ℕ)) where
-    passes-over : wide fm g ≡ false → Follows fm g m t ms (emptyCell (fm .size g)) t ms
+  module _ (fm : Format) (g : ℕ) where
+    passes-over : wide fm g ≡ false → Follows fm g m t [] (emptyCell (fm .size g)) t
     passes-over w = record {
       on = rw (is-owed, w);
       long = length-replicate (fm .size g) 0;
       fine = cell-passes fm g (emptyCell (fm .size g)) refl refl refl refl (zeros-replicate (fm .size g));
       link = busy h a b pm pt;
-      out = refl;
+      out = unchanged (sym (append-nil (begun m t)));
     }
+
+    -- a message that starts beneath ends there, before the one that is owed
+    module _ (w : wide fm g ≡ false) (x : List ℕ) (hx : Message x) (p : placed fm g x ≡ true) where
+      fits-there : length x ≤ fm .size g
+      fits-there = leb-true (length x) (fm .size g) (rw (hx .sized) at (placed-fits fm g x w p))
+
+      pub beneath-ended : ended (startCell (fm .size g) x) m ≡ x ∷ []
+      beneath-ended = rw (take-all (fm .size g) x fits-there) (short-ended fm g x hx fits-there p)
+
+      starts-beneath : Follows fm g m t (x ∷ []) (startCell (fm .size g) x) t
+      starts-beneath =
+          let s = starts-short fm g x hx fits-there p in
+          rw (take-all (fm .size g) x fits-there)
+          (record {
+            on = rw (is-owed, w);
+            long = s .long;
+            fine = s .fine;
+            link = rw w (busy h a b pm pt);
+            out = rw (short-ended fm g x hx fits-there p, w, some) (record { over = λ classes apart. swapped classes x (m ++ t) (apart g x (m ++ t) w p h (rw (length-append m t) (omega arith))) });
+          })
 
     module _ (w : wide fm g ≡ true) where
       abbrev piece : Cell
@@ -203,16 +225,16 @@ module _ (m t : List ℕ) (h : Message (m ++ t)) (a : length m % 20 ≡ 0) (b : 
       pub piece-ended : length t ≡ 20 → ended piece m ≡ (m ++ t) ∷ []
       piece-ended e = rw (piece-whole e, size-piece, take-all 20 t (omega arith), take-all (length m + length t) (m ++ t) (rw (length-append m t) (omega arith)))
 
-      ends : length t ≡ 20 → Follows fm g m t ms piece [] ms
+      ends : length t ≡ 20 → Follows fm g m t [] piece []
       ends e = record {
         on = rw (is-owed, w);
         long = piece-length ∙ sym (eqb-true (fm .size g) 20 w);
         fine = piece-fine;
         link = rw (piece-whole e) idle;
-        out = rw (piece-ended e, some);
+        out = unchanged (rw (piece-ended e, some));
       }
 
-      goes-on : 20 < length t → Follows fm g m t ms piece (drop 20 t) ms
+      goes-on : 20 < length t → Follows fm g m t [] piece (drop 20 t)
       goes-on more =
           let nw : whole (m ++ take 20 t) ≡ false = rw (size-piece, length-piece) (lt-leb (length m + length t) (length m + 20) (omega arith)) in
           let af : after fm g piece m ≡ m ++ take 20 t = rw nw in
@@ -223,7 +245,7 @@ module _ (m t : List ℕ) (h : Message (m ++ t)) (a : length m % 20 ≡ 0) (b : 
             long = piece-length ∙ sym (eqb-true (fm .size g) 20 w);
             fine = piece-fine;
             link = rw af (busy {m = m ++ take 20 t} {t = drop 20 t} (rw joined h) (rw length-piece (omega arith)) (rw d (omega arith)) (rw length-piece (omega arith)) (rw d (omega arith)));
-            out = rw (nw, some, ne-eqb (length (drop 20 t)) 0 (λ (z : length (drop 20 t) ≡ 0). omega arith), joined);
+            out = unchanged (rw (nw, some, ne-eqb (length (drop 20 t)) 0 (λ (z : length (drop 20 t) ≡ 0). omega arith), joined));
           }
 
 -- ---- a message that starts
@@ -261,11 +283,11 @@ start-head fm g m h p o =
     sym (misc-append (take 20 m) (drop 20 m) o (rw n20 (omega arith))) ∙ ap (λ (x : List ℕ). isMisc x o) (take-append-drop 20 m))
 
 -- a message that comes next starts where it is placed
-starts-at : (fm : Format) (g : ℕ) (m : List ℕ) (ms : List (List ℕ)) → Message m → placed fm g m ≡ true
-    → Follows fm g [] [] (m ∷ ms) (startCell (fm .size g) m) (drop (fm .size g) m) ms
-starts-at fm g m ms h p =
-    start-by fm g m h p (λ b r. Follows fm g [] [] (m ∷ ms) (record { goesOn = false; starts = true; bytes = b }) r ms)
-    (λ f. starts-short fm g m ms h f p) (λ w more. starts-long fm g m ms h w more p)
+starts-at : (fm : Format) (g : ℕ) (m : List ℕ) → Message m → placed fm g m ≡ true
+    → Follows fm g [] [] (m ∷ []) (startCell (fm .size g) m) (drop (fm .size g) m)
+starts-at fm g m h p =
+    start-by fm g m h p (λ b r. Follows fm g [] [] (m ∷ []) (record { goesOn = false; starts = true; bytes = b }) r)
+    (λ f. starts-short fm g m h f p) (λ w more. starts-long fm g m h w more p)
 
 -- ---- the list
 
@@ -316,9 +338,11 @@ module _ (l : List ℕ) (at : ℕ) (m : List ℕ) (ms : List (List ℕ)) (h : Le
 
 -- the step of the writer is followed: what is left of the list then, and whether some of it was used
 pub record Steps (fm : Format) (l : List ℕ) (g : ℕ) (m t : List ℕ) (at : ℕ) (ms : List (List ℕ)) (v : Given) : Type 0 where
+  pub taken : List (List ℕ)
   pub rest : List (List ℕ)
+  pub split : ms ≡ taken ++ rest
   pub left : Left l (v .at) rest
-  pub follows : Follows fm g m t ms (v .cell) (v .owes) rest
+  pub follows : Follows fm g m t taken (v .cell) (v .owes)
   pub moved : ((rest ≡ ms) × (v .at ≡ at)) ⊎ (at < v .at)
 
 -- a place where a message may start is one where it is placed
@@ -326,6 +350,10 @@ pub legal-placed : (fm : Format) (n : Grant) (g : ℕ) (es : List Cell) (m : Lis
 legal-placed fm n g es m e =
     and-left (placed fm g m) (not (isMisc m activation) || noCounts n)
     (and-left (placed fm g m && (not (isMisc m activation) || noCounts n)) (groupOk (es ++ (startCell (fm .size g) m ∷ []))) e)
+
+-- and so is one beneath what is owed
+pub beneath-legal : (fm : Format) (n : Grant) (g : ℕ) (es : List Cell) (m : List ℕ) → beneath fm n g es m ≡ true → legal fm n g es m ≡ true
+beneath-legal fm n g es m e = and-right (not (neverEarly m)) (legal fm n g es m) e
 
 module _ (fm : Format) (n : Grant) (l : List ℕ) (g at : ℕ) (es : List Cell) where
   abbrev cursor : List ℕ → Cursor
@@ -346,34 +374,45 @@ module _ (fm : Format) (n : Grant) (l : List ℕ) (g at : ℕ) (es : List Cell) 
   pub give-on : (t : List ℕ) → 0 < length t → wide fm g ≡ true → give fm n l g (cursor t) ≡ record { cell = onCell 20 t; owes = drop 20 t; at = at }
   give-on t p w = rw (ne-eqb (length t) 0 (λ z. omega arith), w, eqb-true (fm .size g) 20 w)
 
-  pub give-over : (t : List ℕ) → 0 < length t → wide fm g ≡ false → give fm n l g (cursor t) ≡ nothing fm g (cursor t)
-  give-over t p w = rw (ne-eqb (length t) 0 (λ z. omega arith), w)
+  -- in a narrow one the next message where it may lie beneath, else nothing
+  pub give-beneath : (t m : List ℕ) (ms : List (List ℕ)) → 0 < length t → wide fm g ≡ false → Left l at (m ∷ ms) → beneath fm n g es m ≡ true
+      → give fm n l g (cursor t) ≡ record { cell = startCell (fm .size g) m; owes = t; at = at + (sizeLength m + length m) }
+  give-beneath t m ms p w h y = rw (ne-eqb (length t) 0 (λ z. omega arith), w, first-next l at m ms h, message-next l at m ms h, y)
+
+  pub give-over : (t m : List ℕ) (ms : List (List ℕ)) → 0 < length t → wide fm g ≡ false → Left l at (m ∷ ms) → beneath fm n g es m ≡ false
+      → give fm n l g (cursor t) ≡ nothing fm g (cursor t)
+  give-over t m ms p w h y = rw (ne-eqb (length t) 0 (λ z. omega arith), w, first-next l at m ms h, message-next l at m ms h, y)
+
+  pub give-last : (t : List ℕ) → 0 < length t → wide fm g ≡ false → Left l at [] → give fm n l g (cursor t) ≡ nothing fm g (cursor t)
+  give-last t p w h = rw (ne-eqb (length t) 0 (λ z. omega arith), w, first-none l at h)
 
   idle-step : (ms : List (List ℕ)) → Left l at ms → Steps fm l g [] [] at ms (give fm n l g (cursor []))
-  idle-step [] h = subst (Steps fm l g [] [] at []) (sym (give-none h)) (record { rest = []; left = h; follows = idle-nothing fm g []; moved = inl (refl, refl) })
+  idle-step [] h = subst (Steps fm l g [] [] at []) (sym (give-none h)) (record { taken = []; rest = []; split = refl; left = h; follows = idle-nothing fm g; moved = inl (refl, refl) })
   idle-step (m ∷ ms) h = ⊎-elim may may-not (cases (legal fm n g es m))
     where
       may : legal fm n g es m ≡ true → Steps fm l g [] [] at (m ∷ ms) (give fm n l g (cursor []))
       may t =
           subst (Steps fm l g [] [] at (m ∷ ms)) (sym (give-next m ms h t))
           (record {
+            taken = m ∷ [];
             rest = ms;
+            split = refl;
             left = left-next l at m ms h;
-            follows = starts-at fm g m ms (is-next l at m ms h) (legal-placed fm n g es m t);
+            follows = starts-at fm g m (is-next l at m ms h) (legal-placed fm n g es m t);
             moved = inr (let k = next-some l at m ms h in omega arith);
           })
 
       may-not : legal fm n g es m ≡ false → Steps fm l g [] [] at (m ∷ ms) (give fm n l g (cursor []))
       may-not t =
           subst (Steps fm l g [] [] at (m ∷ ms)) (sym (give-not m ms h t))
-          (record { rest = m ∷ ms; left = h; follows = idle-nothing fm g (m ∷ ms); moved = inl (refl, refl) })
+          (record { taken = []; rest = m ∷ ms; split = refl; left = h; follows = idle-nothing fm g; moved = inl (refl, refl) })
 
   pub step-followed : (m t : List ℕ) (ms : List (List ℕ)) → Link m t → Left l at ms → Steps fm l g m t at ms (give fm n l g (cursor t))
   step-followed m t ms idle left = idle-step ms left
   step-followed m t ms (busy h a b pm pt) left = ⊎-elim in-wide in-narrow (cases (wide fm g))
     where
-      made : {v : Given} → v .at ≡ at → Follows fm g m t ms (v .cell) (v .owes) ms → Steps fm l g m t at ms v
-      made e f = record { rest = ms; left = rw e left; follows = f; moved = inl (refl, e) }
+      made : {v : Given} → v .at ≡ at → Follows fm g m t [] (v .cell) (v .owes) → Steps fm l g m t at ms v
+      made e f = record { taken = []; rest = ms; split = refl; left = rw e left; follows = f; moved = inl (refl, e) }
 
       in-wide : wide fm g ≡ true → Steps fm l g m t at ms (give fm n l g (cursor t))
       in-wide w = subst (Steps fm l g m t at ms) (sym (give-on t pt w)) (⊎-elim last further (cases (leb (length t) 20)))
@@ -381,10 +420,32 @@ module _ (fm : Format) (n : Grant) (l : List ℕ) (g at : ℕ) (es : List Cell) 
           last : leb (length t) 20 ≡ true → Steps fm l g m t at ms (record { cell = onCell 20 t; owes = drop 20 t; at = at })
           last e =
               let le : length t ≤ 20 = leb-true (length t) 20 e in
-              rw (drop-of-length-le t le) (made refl (ends m t h a b pm pt fm g ms w (omega arith)))
+              rw (drop-of-length-le t le) (made refl (ends m t h a b pm pt fm g w (omega arith)))
 
           further : leb (length t) 20 ≡ false → Steps fm l g m t at ms (record { cell = onCell 20 t; owes = drop 20 t; at = at })
-          further e = made refl (goes-on m t h a b pm pt fm g ms w (leb-false (length t) 20 e))
+          further e = made refl (goes-on m t h a b pm pt fm g w (leb-false (length t) 20 e))
 
       in-narrow : wide fm g ≡ false → Steps fm l g m t at ms (give fm n l g (cursor t))
-      in-narrow w = subst (Steps fm l g m t at ms) (sym (give-over t pt w)) (made refl (passes-over m t h a b pm pt fm g ms w))
+      in-narrow w = by ms left
+        where
+          over : (xs : List (List ℕ)) → Left l at xs → Steps fm l g m t at xs (nothing fm g (cursor t))
+          over xs k = record { taken = []; rest = xs; split = refl; left = k; follows = passes-over m t h a b pm pt fm g w; moved = inl (refl, refl) }
+
+          by : (xs : List (List ℕ)) → Left l at xs → Steps fm l g m t at xs (give fm n l g (cursor t))
+          by [] k = subst (Steps fm l g m t at []) (sym (give-last t pt w k)) (over [] k)
+          by (x ∷ xs) k = ⊎-elim may may-not (cases (beneath fm n g es x))
+            where
+              may : beneath fm n g es x ≡ true → Steps fm l g m t at (x ∷ xs) (give fm n l g (cursor t))
+              may y =
+                  subst (Steps fm l g m t at (x ∷ xs)) (sym (give-beneath t x xs pt w k y))
+                  (record {
+                    taken = x ∷ [];
+                    rest = xs;
+                    split = refl;
+                    left = left-next l at x xs k;
+                    follows = starts-beneath m t h a b pm pt fm g w x (is-next l at x xs k) (legal-placed fm n g es x (beneath-legal fm n g es x y));
+                    moved = inr (let i = next-some l at x xs k in omega arith);
+                  })
+
+              may-not : beneath fm n g es x ≡ false → Steps fm l g m t at (x ∷ xs) (give fm n l g (cursor t))
+              may-not y = subst (Steps fm l g m t at (x ∷ xs)) (sym (give-over t x xs pt w k y)) (over (x ∷ xs) k)

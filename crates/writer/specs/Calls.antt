@@ -7,9 +7,11 @@ use lib.ListN.{length, take, drop}
 use lib.Dec.{eqb}
 use Rattle.lists.specs.Pick.{pick}
 use Rattle.lists.specs.Parts.{IsBytes}
+use Rattle.lists.specs.Reordering.{Reordered}
 use Rattle.container.specs.declared.grant.Grant.{Grant}
-use Rattle.record.specs.Records.{recordOf}
-use Rattle.reader.specs.Reading.{carried, records, reading}
+use Rattle.message.specs.Kinds.{pays}
+use Rattle.record.specs.Records.{recordsOf}
+use Rattle.reader.specs.Reading.{carried, records, readerWith, reading}
 use Rattle.reader.specs.declared.reader.Reader.{Reader}
 use Rattle.reader.specs.declared.reader.Answer.the-variants as read
 use Rattle.writer.specs.Filling.{tailOf, writerWith, filling, fillBytes}
@@ -65,6 +67,30 @@ pub data Reading (s : Reader) : List (List ℕ) → List Grant → List ℕ → 
   then : {cs : List (List ℕ)} {ns : List Grant} {out more : List ℕ} {s₁ s₂ : Reader} {c : List ℕ} {n : Grant}
       → Reading s cs ns out s₁ → Reads s₁ c n more s₂ → Reading s (cs ++ (c ∷ [])) (ns ++ (n ∷ [])) (out ++ more) s₂
 
--- the message that is begun and not yet finished: what is carried and the tail owed, as a record
-abbrev pub underWay : Reader → Writer → List ℕ
-underWay s w = pick (eqb (length (tailOf w)) 0) [] (recordOf (carried s ++ tailOf w))
+-- the message that is begun and not yet finished, none or one: what is carried and the tail owed
+abbrev pub underWay : Reader → Writer → List (List ℕ)
+underWay s w = pick (eqb (length (tailOf w)) 0) [] ((carried s ++ tailOf w) ∷ [])
+
+-- "the same messages, each once, with those that pay one kind, REQ, RSP, SNP, DAT or nothing, in their order" (document 02, K8)
+pub record SameMessages (f : ℕ) (out taken : List (List ℕ)) : Type 0 where
+  pub by-kind : Reordered pays out taken
+  -- in X no granule is passed over, and all are in the same order
+  pub in-x : f ≡ 0 → out ≡ taken
+
+-- a new reader hands out the messages that were used
+pub record AllOut (f : ℕ) (cs : List (List ℕ)) (ns : List Grant) (used : List ℕ) : Type 0 where
+  pub reader : Reader
+  pub out : List (List ℕ)
+  pub taken : List (List ℕ)
+  pub readings : Reading (readerWith f []) cs ns (recordsOf out) reader
+  pub is-used : used ≡ recordsOf taken
+  pub same : SameMessages f out taken
+
+-- before the tail of a writer is paid: what it has handed out and what is under way, together
+pub record OutSoFar (f : ℕ) (cs : List (List ℕ)) (ns : List Grant) (used : List ℕ) (w : Writer) : Type 0 where
+  pub reader : Reader
+  pub out : List (List ℕ)
+  pub taken : List (List ℕ)
+  pub readings : Reading (readerWith f []) cs ns (recordsOf out) reader
+  pub is-used : used ≡ recordsOf taken
+  pub same : SameMessages f (out ++ underWay reader w) taken

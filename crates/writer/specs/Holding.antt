@@ -33,6 +33,14 @@ legalBy fm n g e t o =
     (placedBy fm g t o && (not (miscBy t o activation) || noCounts n))
     && (e .full && (leb (e .miscs + miscsBy t) 1 && leb (e .responses + responsesBy t) 4))
 
+-- it may lie beneath what is owed
+abbrev pub beneathBy : Format → Grant → ℕ → Group → ℕ → ℕ → Bool
+beneathBy fm n g e t o = not (miscBy t o activation) && legalBy fm n g e t o
+
+-- it may start at granule g under a cursor, which owes nothing or bytes that pass over the granule
+abbrev pub mayBy : Format → Grant → ℕ → Cursor → ℕ → ℕ → Bool
+mayBy fm n g p t o = pick (eqb (p .left) 0) (legalBy fm n g (p .group) t o) (beneathBy fm n g (p .group) t o)
+
 -- the bytes owed: a part of the old tail, or of the list
 abbrev pub owedOf : List ℕ → List ℕ → Cursor → List ℕ
 owedOf t l p = part (p .from) (p .left) (pick (p .tail) t l)
@@ -69,7 +77,18 @@ cursorOn g p = record {
   group = groupNext g (p .group) true 0 0;
 }
 
--- the record from start to end of what is left of the list starts in granule g of n bytes, with type t
+-- the record up to e of what is left of the list starts in granule g, with type t, and what is owed stays owed
+abbrev pub cursorUsed : ℕ → Cursor → ℕ → ℕ → Cursor
+cursorUsed g p e t = record {
+  tail = p .tail;
+  from = p .from;
+  left = p .left;
+  at = p .at + e;
+  starts = p .starts + 2 ^ g;
+  group = groupNext g (p .group) true (miscsBy t) (responsesBy t);
+}
+
+-- the record from s to e of what is left of the list starts in granule g of n bytes, with type t, and its rest is owed
 abbrev pub cursorStart : ℕ → ℕ → Cursor → ℕ → ℕ → ℕ → Cursor
 cursorStart n g p s e t = record {
   tail = false;
@@ -80,13 +99,17 @@ cursorStart n g p s e t = record {
   group = groupNext g (p .group) true (miscsBy t) (responsesBy t);
 }
 
--- the next cursor where nothing is owed, by the first record of what is left of the list
+-- that record is taken: beneath what is owed, if bytes are
+abbrev pub cursorTaken : ℕ → ℕ → Cursor → ℕ → ℕ → ℕ → Cursor
+cursorTaken n g p s e t = pick (eqb (p .left) 0) (cursorStart n g p s e t) (cursorUsed g p e t)
+
+-- the next cursor where nothing goes on, by the first record of what is left of the list
 abbrev pub cursorFirst : Format → Grant → List ℕ → ℕ → Cursor → First → Cursor
 cursorFirst fm n l g p Empty = cursorEmpty g p
 cursorFirst fm n l g p Bad = cursorEmpty g p
 cursorFirst fm n l g p (Whole s e) =
-    pick (legalBy fm n g (p .group) (typeOf (messageOf (drop (p .at) l) s e)) (opOf (messageOf (drop (p .at) l) s e)))
-    (cursorStart (fm .size g) g p s e (typeOf (messageOf (drop (p .at) l) s e)))
+    pick (mayBy fm n g p (typeOf (messageOf (drop (p .at) l) s e)) (opOf (messageOf (drop (p .at) l) s e)))
+    (cursorTaken (fm .size g) g p s e (typeOf (messageOf (drop (p .at) l) s e)))
     (cursorEmpty g p)
 
 -- the bytes of the granule then, before the zeros behind them
@@ -94,19 +117,21 @@ abbrev pub bytesFirst : Format → Grant → List ℕ → ℕ → Cursor → Fir
 bytesFirst fm n l g p Empty = []
 bytesFirst fm n l g p Bad = []
 bytesFirst fm n l g p (Whole s e) =
-    pick (legalBy fm n g (p .group) (typeOf (messageOf (drop (p .at) l) s e)) (opOf (messageOf (drop (p .at) l) s e)))
+    pick (mayBy fm n g p (typeOf (messageOf (drop (p .at) l) s e)) (opOf (messageOf (drop (p .at) l) s e)))
     (take (fm .size g) (messageOf (drop (p .at) l) s e))
     []
 
 -- the cursor behind granule g
 unfoldable pub cursorNext : Format → Grant → List ℕ → List ℕ → ℕ → Cursor → Cursor
 cursorNext fm n t l g p =
-    pick (eqb (p .left) 0) (cursorFirst fm n l g p (firstOf (drop (p .at) l))) (pick (wide fm g) (cursorOn g p) (cursorEmpty g p))
+    pick (eqb (p .left) 0) (cursorFirst fm n l g p (firstOf (drop (p .at) l)))
+    (pick (wide fm g) (cursorOn g p) (cursorFirst fm n l g p (firstOf (drop (p .at) l))))
 
 -- the bytes that granule g is given, before the zeros behind them
 unfoldable pub bytesNext : Format → Grant → List ℕ → List ℕ → ℕ → Cursor → List ℕ
 bytesNext fm n t l g p =
-    pick (eqb (p .left) 0) (bytesFirst fm n l g p (firstOf (drop (p .at) l))) (pick (wide fm g) (take 20 (owedOf t l p)) [])
+    pick (eqb (p .left) 0) (bytesFirst fm n l g p (firstOf (drop (p .at) l)))
+    (pick (wide fm g) (take 20 (owedOf t l p)) (bytesFirst fm n l g p (firstOf (drop (p .at) l))))
 
 -- the cursor at the start of a container whose tail is t
 abbrev pub cursorStarting : List ℕ → Cursor

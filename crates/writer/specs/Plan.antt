@@ -1,5 +1,5 @@
--- The writer's one way (document 01): each granule from G0 upwards takes what is owed, or the next record if it may start there, or
--- stays empty.
+-- The writer's one way (document 01, and K8 of document 02): each granule from G0 upwards takes what is owed, or the next record if it may
+-- start there, or stays empty.
 use Prim.Native.Nat.{ℕ, zero, suc, _+_, _%_}
 use mathlib.Core.Bool.{Bool, true, false, _&&_, _||_, not}
 use mathlib.Core.List.{List, [], _∷_, _++_}
@@ -38,6 +38,14 @@ abbrev pub legal : Format → Grant → ℕ → List Cell → List ℕ → Bool
 legal fm n g es m =
     (placed fm g m && (not (isMisc m activation) || noCounts n)) && groupOk (es ++ (startCell (fm .size g) m ∷ []))
 
+-- "an Activation is never taken early" (document 02, K8)
+abbrev pub neverEarly : List ℕ → Bool
+neverEarly m = isMisc m activation
+
+-- a message may lie beneath what is owed: it may be taken early, and all placement rules still bind
+abbrev pub beneath : Format → Grant → ℕ → List Cell → List ℕ → Bool
+beneath fm n g es m = not (neverEarly m) && legal fm n g es m
+
 -- the writer inside a container: the bytes owed, the bytes of the list used, and the cells of the present group so far
 pub record Cursor : Type 0 where
   pub owes : List ℕ
@@ -54,26 +62,28 @@ pub record Given : Type 0 where
 abbrev pub nothing : Format → ℕ → Cursor → Given
 nothing fm g w = record { cell = emptyCell (fm .size g); owes = w .owes; at = w .at }
 
--- the next record starts where it may
-abbrev pub startNext : Format → Grant → List ℕ → ℕ → Cursor → First → Given
-startNext fm n l g w Empty = nothing fm g w
-startNext fm n l g w Bad = nothing fm g w
-startNext fm n l g w (Whole start end) =
-    pick (legal fm n g (w .group) (messageOf (drop (w .at) l) start end))
+-- the next record starts where its message may; rest gives what is owed then
+abbrev pub startNext : Format → List ℕ → ℕ → Cursor → (List ℕ → Bool) → (List ℕ → List ℕ) → First → Given
+startNext fm l g w may rest Empty = nothing fm g w
+startNext fm l g w may rest Bad = nothing fm g w
+startNext fm l g w may rest (Whole start end) =
+    pick (may (messageOf (drop (w .at) l) start end))
     (record {
       cell = startCell (fm .size g) (messageOf (drop (w .at) l) start end);
-      owes = drop (fm .size g) (messageOf (drop (w .at) l) start end);
+      owes = rest (messageOf (drop (w .at) l) start end);
       at = w .at + end;
     })
     (nothing fm g w)
 
--- granule g, with l the whole list: what is owed goes on, passing over a granule of fewer than 20 bytes
+-- granule g, with l the whole list: where nothing is owed, the next record; else what is owed goes on, passing over a granule of fewer
+-- than 20 bytes, in which the next record is put where it may lie beneath
 abbrev pub give : Format → Grant → List ℕ → ℕ → Cursor → Given
 give fm n l g w =
-    pick (eqb (length (w .owes)) 0) (startNext fm n l g w (firstOf (drop (w .at) l)))
+    pick (eqb (length (w .owes)) 0)
+    (startNext fm l g w (legal fm n g (w .group)) (λ m. drop (fm .size g) m) (firstOf (drop (w .at) l)))
     (pick (wide fm g)
     (record { cell = onCell (fm .size g) (w .owes); owes = drop (fm .size g) (w .owes); at = w .at })
-    (nothing fm g w))
+    (startNext fm l g w (beneath fm n g (w .group)) (λ m. w .owes) (firstOf (drop (w .at) l))))
 
 -- a group is three granules
 abbrev pub groupAfter : ℕ → List Cell → Cell → List Cell

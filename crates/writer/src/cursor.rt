@@ -10,7 +10,7 @@ ghost use Rattle.lists.specs.Parts.{put, pad};
 ghost use Rattle.container.specs.Layout.{formatOf, start};
 ghost use Rattle.record.specs.Records.{firstOf};
 ghost use Rattle.record.specs.declared.list.First.the-variants.{Whole};
-ghost use Rattle.writer.specs.Holding.{Sane, noGroup, cursorEmpty, cursorOn, cursorStart, cursorFirst, bytesFirst, cursorNext, bytesNext, cursorAt, laidTo, owedOf};
+ghost use Rattle.writer.specs.Holding.{Sane, noGroup, mayBy, cursorEmpty, cursorOn, cursorUsed, cursorTaken, cursorFirst, bytesFirst, cursorNext, bytesNext, cursorAt, laidTo, owedOf};
 use crate::fill::clear_container;
 use crate::fill::fill_granule;
 use crate::group::Group;
@@ -101,26 +101,49 @@ impl Cursor {
         }
     }
 
-    // The record from skip to end of what is left of the list starts in granule g of so many bytes.
+    // The record up to end of what is left of the list starts in granule g, and what is owed stays owed.
+    fn use_record(self, g: u8, end: usize, kind: u8) -> Cursor
+        requires { ⌜ (self .group .miscs ≤ 2) × (self .group .responses ≤ 4) ⌝ }
+        requires { ⌜ (self .at + end ≤ 4096) × (g < 12) × (self .starts < 2 ^ g) ⌝ }
+        ensures { λ r. ⌜ r ≡ cursorUsed g self end kind ⌝ }
+    {
+        let group = self.group;
+        Cursor {
+            tail: self.tail,
+            from: self.from,
+            left: self.left,
+            at: self.at + end,
+            starts: self.starts + raise_bit(g),
+            group: group.add(g, true, count_miscs(kind), count_responses(kind)),
+        }
+    }
+
+    // The record from skip to end of what is left of the list starts in granule g of so many bytes: its rest is owed, unless it lies
+    // beneath what is owed.
     fn take_record(self, width: usize, g: u8, skip: usize, end: usize, kind: u8) -> Cursor
         requires { ⌜ (self .group .miscs ≤ 2) × (self .group .responses ≤ 4) ⌝ }
         requires { ⌜ (self .at + end ≤ 4096) × (skip ≤ end) × (width ≤ 20) ⌝ }
         requires { ⌜ (g < 12) × (self .starts < 2 ^ g) ⌝ }
-        ensures { λ r. ⌜ r ≡ cursorStart width g self skip end kind ⌝ }
+        ensures { λ r. ⌜ r ≡ cursorTaken width g self skip end kind ⌝ }
     {
-        let group = self.group;
+        let from = self.at + (skip + width);
+        let used = self.use_record(g, end, kind);
+        if used.left > 0 {
+            return used;
+        }
         let size = end - skip;
         let mut left = 0;
         if width < size {
             left = size - width;
         }
+        let group = used.group;
         Cursor {
             tail: false,
-            from: self.at + (skip + width),
+            from: from,
             left: left,
-            at: self.at + end,
-            starts: self.starts + raise_bit(g),
-            group: group.add(g, true, count_miscs(kind), count_responses(kind)),
+            at: used.at,
+            starts: used.starts,
+            group: group,
         }
     }
 
@@ -141,6 +164,18 @@ impl Cursor {
         self.advance(g)
     }
 
+    // Whether a message of this type and op may start in granule g; where bytes are owed it lies beneath them.
+    fn admits(self, format: u32, grant: Grant, g: u8, kind: u8, op: u8) -> bool
+        requires { ⌜ (self .group .miscs ≤ 2) × (self .group .responses ≤ 4) ⌝ }
+        ensures { λ r. ⌜ r ≡ mayBy (formatOf format) grant g self kind op ⌝ }
+    {
+        let group = self.group;
+        if self.left > 0 {
+            return group.admits_beneath(format, grant, g, kind, op);
+        }
+        group.admits(format, grant, g, kind, op)
+    }
+
     // The message from skip to end of what is left of the list starts in granule g if it may.
     fn start_message(
         self,
@@ -153,7 +188,7 @@ impl Cursor {
         container: &mut [u8],
     ) -> Cursor
         requires { ⌜ (length (now container) ≡ 256) × (g < 12) × (length (now list) ≤ 4096) ⌝ }
-        requires { ⌜ Sane [] (now list) g self ⌝ }
+        requires { ⌜ (self .group .miscs ≤ 2) × (self .group .responses ≤ 4) × (self .starts < 2 ^ g) ⌝ }
         requires { ⌜ (skip + 10 ≤ end) × (self .at + end ≤ length (now list)) ⌝ }
         ensures cursor { λ r. ⌜ r ≡ cursorFirst (formatOf format) grant (now (list .entry)) g self (Whole skip end) ⌝ }
         ensures bytes { λ _. ⌜ now (container .exit) ≡ put (start g) (pad (formatOf format .size g) (bytesFirst (formatOf format) grant (now (list .entry)) g self (Whole skip end))) (now (container .entry)) ⌝ }
@@ -161,8 +196,7 @@ impl Cursor {
         let from = self.at + skip;
         let kind = byte_at(list, from) % 16;
         let op = byte_at(list, from + 1);
-        let group = self.group;
-        if !group.admits(format, grant, g, kind, op) {
+        if !self.admits(format, grant, g, kind, op) {
             return self.pass_over(format, g, container);
         }
         let width = measure_granule(format, g);
@@ -171,7 +205,7 @@ impl Cursor {
         self.take_record(width, g, skip, end, kind)
     }
 
-    // Nothing is owed: the next record starts in granule g if it may.
+    // Nothing is owed, or what is owed passes over granule g: the next record starts there if it may.
     fn start_record(
         self,
         format: u32,
@@ -181,7 +215,7 @@ impl Cursor {
         container: &mut [u8],
     ) -> Cursor
         requires { ⌜ (length (now container) ≡ 256) × (g < 12) × (length (now list) ≤ 4096) ⌝ }
-        requires { ⌜ Sane [] (now list) g self ⌝ }
+        requires { ⌜ (self .group .miscs ≤ 2) × (self .group .responses ≤ 4) × (self .starts < 2 ^ g) × (self .at ≤ length (now list)) ⌝ }
         ensures cursor { λ r. ⌜ r ≡ cursorFirst (formatOf format) grant (now (list .entry)) g self (firstOf (drop (self .at) (now (list .entry)))) ⌝ }
         ensures bytes { λ _. ⌜ now (container .exit) ≡ put (start g) (pad (formatOf format .size g) (bytesFirst (formatOf format) grant (now (list .entry)) g self (firstOf (drop (self .at) (now (list .entry)))))) (now (container .entry)) ⌝ }
     {
@@ -214,7 +248,7 @@ impl Cursor {
         if measure_granule(format, g) == 20 {
             return self.go_on(format, tail, list, g, container);
         }
-        self.pass_over(format, g, container)
+        self.start_record(format, grant, list, g, container)
     }
 }
 

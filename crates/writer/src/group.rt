@@ -5,7 +5,7 @@ ghost use Prim.Native.Nat.{_+_, _≤_};
 ghost use lib.Dec.{leb};
 ghost use Rattle.container.specs.Layout.{formatOf};
 ghost use Rattle.message.specs.Places.{miscsBy, responsesBy};
-ghost use Rattle.writer.specs.Holding.{noGroup, groupNext, legalBy};
+ghost use Rattle.writer.specs.Holding.{noGroup, groupNext, legalBy, beneathBy};
 use container::Grant;
 use container::has_counts;
 use message::count_miscs;
@@ -75,5 +75,13 @@ impl Group {
             }
         }
         self.takes(kind)
+    }
+
+    // Whether a message of this type and op may lie in granule g beneath what is owed: an Activation never does.
+    pub fn admits_beneath(self, format: u32, grant: Grant, g: u8, kind: u8, op: u8) -> bool
+        requires { ⌜ (self .miscs ≤ 1000) × (self .responses ≤ 1000) ⌝ }
+        ensures { λ r. ⌜ r ≡ beneathBy (formatOf format) grant g self kind op ⌝ }
+    {
+        !is_misc(kind, op, 1) && self.admits(format, grant, g, kind, op)
     }
 }

@@ -17,7 +17,9 @@ use std::time::Instant;
 use model::cause::Refusal;
 use model::layout::{Format, Grant, CONTAINER};
 use model::ledger::{Ledger, DIRECTIONS, POOLS};
+use model::list::{check, write_list};
 use model::log::verdict;
+use model::order::is_returned;
 use model::{reader, writer};
 
 use crate::random::Random;
@@ -26,9 +28,12 @@ use crate::vectors::Outcome;
 
 const CONTAINERS: usize = 400_000;
 const LISTS: usize = 50_000;
+const PACKINGS: usize = 5_000;
 const LOGS: usize = 15_000;
 const INTERLEAVED: usize = 10_000;
 const PAIRS: usize = 2_000;
+const BENEATH: usize = 500;
+const SMALL: [usize; 2] = [5, 11];
 const RUNS: usize = 500;
 const AUDITED: usize = 5;
 const LONGER: usize = 10;
@@ -73,6 +78,9 @@ fn main() -> ExitCode {
     for _ in 0..LISTS * options.times {
         compare_fill(&mut random, &mut tally);
     }
+    for _ in 0..PACKINGS * options.times {
+        compare_packing(&mut random, &mut tally);
+    }
     for n in 0..LOGS * options.times {
         compare_log(&mut random, &mut tally, n, options.audit.as_deref());
     }
@@ -85,15 +93,23 @@ fn main() -> ExitCode {
         }
     }
     report(&tally, options.seed, started);
+    ExitCode::from(u8::from(!is_complete(&tally) || tally.differences + vectors.differences > 0))
+}
+
+/// Whether the run met all that it is to meet; prints what is missing.
+fn is_complete(tally: &Tally) -> bool {
     let missed: Vec<u32> = CAUSES.into_iter().filter(|&cause| !tally.has_met(cause)).collect();
     if !missed.is_empty() {
         println!("causes not met: {missed:?}");
     }
+    let rare: Vec<usize> = SMALL.into_iter().filter(|&g| tally.beneath[g] < BENEATH).collect();
+    if !rare.is_empty() {
+        println!("fewer than {BENEATH} records beneath longer messages in granules {rare:?}");
+    }
     if tally.pairs < PAIRS {
         println!("fewer than {PAIRS} pairs of interleavings");
     }
-    let complete = missed.is_empty() && tally.pairs >= PAIRS;
-    ExitCode::from(u8::from(!complete || tally.differences + vectors.differences > 0))
+    missed.is_empty() && rare.is_empty() && tally.pairs >= PAIRS
 }
 
 /// Runs the vector files against the model.
@@ -123,6 +139,10 @@ fn run_vectors(data: &str) -> Outcome {
 fn report(tally: &Tally, seed: u64, started: Instant) {
     tally.print_table();
     let [containers, lists, logs] = tally.compared;
+    println!(
+        "packing: {} records beneath in G5, {} in G11, {} lists packed whole, {} in another order",
+        tally.beneath[5], tally.beneath[11], tally.packings, tally.reordered
+    );
     println!(
         "differential: seed {seed}, {containers} containers, {lists} lists, {logs} logs of {} entries, {} pairs of interleavings, {} program runs, {} differences, {} s",
         tally.entries,
@@ -227,7 +247,32 @@ fn compare_fill(random: &mut Random, tally: &mut Tally) {
         let proved = format!("{answer} tail {} container {}", hex(&next.bytes), hex(&container));
         tally.differ(&what, &list, &format!("{expected:?}"), &proved);
     }
+    for g in expected.iter().flat_map(|filled| &filled.beneath) {
+        tally.beneath[*g] += 1;
+    }
     tally.count(In::List, expected.err());
+}
+
+/// Compares the containers of a whole list, and the messages read out of them with those of the list.
+fn compare_packing(random: &mut Random, tally: &mut Tally) {
+    let number = random.below(2) as u32;
+    let format = Format::from_number(number).expect("the format is valid");
+    let bound = make::list_bound(random);
+    let list = make::list(random, bound);
+    let expected = writer::pack(number, &list).expect("the list is right");
+    let packed = proved::pack(number, &list);
+    if packed != expected {
+        tally.differ(&format!("packing, format {number}"), &list, &hex(&expected.concat()), &hex(&packed.concat()));
+    }
+    let records = check(&list).expect("the list is right");
+    let messages: Vec<Vec<u8>> = records.into_iter().map(|record| record.message).collect();
+    let (read, _) = programs::read(format, &packed);
+    if !is_returned(format, &messages, &read) {
+        let what = format!("the messages read, format {number}");
+        tally.differ(&what, &list, &hex(&write_list(&messages)), &hex(&write_list(&read)));
+    }
+    tally.packings += 1;
+    tally.reordered += usize::from(read != messages);
 }
 
 /// A grant for the writer: often none, sometimes wrong.

@@ -79,9 +79,23 @@ pub fn palette(random: &mut Random) -> Vec<Kind> {
     (0..count).map(|_| random.pick(&KINDS)).collect()
 }
 
-/// A list of right records of at most so many bytes.
+/// Longer messages, and short ones that lie beneath them where they may.
+const LAYERS: [Kind; 10] = [
+    Kind::ReqL,
+    Kind::DataS,
+    Kind::DataL,
+    Kind::WrReqDataS,
+    Kind::WrReqDataL,
+    Kind::Resp,
+    Kind::Resp,
+    Kind::Activation,
+    Kind::CrdtGrant,
+    Kind::Connect,
+];
+
+/// A list of right records of at most so many bytes, often of longer messages with short ones between.
 pub fn list(random: &mut Random, most: usize) -> Vec<u8> {
-    let kinds = palette(random);
+    let kinds = if random.once_in(2) { LAYERS.to_vec() } else { palette(random) };
     let mut list = Vec::new();
     for _ in 0..most {
         let kind = random.pick(&kinds);

@@ -3,7 +3,7 @@
 use std::io::{Read, Write};
 use std::process::{Command, Stdio};
 
-use model::layout::{Format, Part};
+use model::layout::{Format, Part, CONTAINER};
 use model::log::Verdict;
 use model::reader::judge;
 
@@ -40,8 +40,15 @@ pub fn run(path: &str, input: &[u8], part: usize) -> Vec<u8> {
 }
 
 /// What `unpack` prints for containers in order: every message as hex, then the verdict.
-pub fn unpacked(format: Format, containers: &[[u8; 256]]) -> String {
-    let mut lines = String::new();
+pub fn unpacked(format: Format, containers: &[[u8; CONTAINER]]) -> String {
+    let (messages, verdict) = read(format, containers);
+    let lines: String = messages.iter().map(|message| hex(message) + "\n").collect();
+    lines + &format!("{verdict}\n")
+}
+
+/// The messages that the model reads out of containers in order, and its verdict.
+pub fn read(format: Format, containers: &[[u8; CONTAINER]]) -> (Vec<Vec<u8>>, Verdict) {
+    let mut messages = Vec::new();
     let mut carry = Part::none();
     let mut verdict = Verdict { accepted: 0, refused: None };
     for container in containers {
@@ -53,12 +60,9 @@ pub fn unpacked(format: Format, containers: &[[u8; 256]]) -> String {
             Ok(reading) => {
                 carry = reading.carry;
                 verdict.accepted += 1;
-                for message in reading.finished {
-                    lines += &hex(&message);
-                    lines.push('\n');
-                }
+                messages.extend(reading.finished);
             }
         }
     }
-    lines + &format!("{verdict}\n")
+    (messages, verdict)
 }

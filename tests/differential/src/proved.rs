@@ -2,8 +2,10 @@
 
 use model::layout::{Grant, Part, CONTAINER, PART};
 use model::ledger::{DIRECTIONS, POOLS};
+use model::list::LIST;
 
 const GRANT: usize = 6;
+const REFUSED: u64 = 1 << 32;
 
 extern "C" {
     fn c2c_check(format: u32, container: *const u8, container_len: usize, room: *mut u8, room_len: usize) -> u32;
@@ -63,6 +65,24 @@ pub fn fill(format: u32, tail: &mut Part, grant: Grant, list: &[u8], container: 
             container.len(),
         )
     }
+}
+
+/// The containers that fills from fresh with zero grants make of a list, up to a refusal.
+pub fn pack(format: u32, list: &[u8]) -> Vec<[u8; CONTAINER]> {
+    let mut containers = Vec::new();
+    let mut tail = Part::none();
+    let mut rest = list;
+    while (!rest.is_empty() || tail.len > 0) && containers.len() < LIST {
+        let mut container = [0; CONTAINER];
+        let answer = fill(format, &mut tail, Grant::default(), rest, &mut container);
+        if answer >= REFUSED {
+            break;
+        }
+        tail.len = answer as usize % 256;
+        rest = &rest[answer as usize / 256..];
+        containers.push(container);
+    }
+    containers
 }
 
 /// What the audit of entries gives up to the first refusal.

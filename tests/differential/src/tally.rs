@@ -3,6 +3,7 @@
 use std::collections::{BTreeMap, BTreeSet};
 
 use model::cause::Refusal;
+use model::layout::GRANULES;
 
 const SHOWN: usize = 10;
 const MOST_PLACES: usize = 14;
@@ -28,6 +29,11 @@ pub struct Tally {
     pub compared: [usize; 3],
     pub accepted: [usize; 3],
     pub entries: usize,
+    /// The records that lie beneath longer messages, by granule.
+    pub beneath: [usize; GRANULES],
+    pub packings: usize,
+    /// The lists that come out in another order.
+    pub reordered: usize,
     pub pairs: usize,
     pub runs: usize,
     pub differences: usize,

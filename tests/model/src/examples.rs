@@ -1,4 +1,4 @@
-//! Document 01's examples: M1 to M10 and those that are run only.
+//! Document 01's examples, M1 to M10 and those that are run only, and records beneath longer messages.
 
 use crate::cause::{refusal, Refusal};
 use crate::layout::{granule_start, Format, Grant, Header, Part, CONTAINER, GRANULES};
@@ -6,8 +6,9 @@ use crate::ledger::{Ledger, Receiver, POOLS, SHARED_DAT};
 use crate::list::{read_number, write_list, write_number};
 use crate::log::verdict;
 use crate::message::{Kind, KINDS};
+use crate::order::is_returned;
 use crate::reader::{check, is_valid_carry, judge, judge_fresh, Reading};
-use crate::writer::{fill, pack};
+use crate::writer::{fill, pack, Filled};
 
 /// A message of a kind with a right head and a body of zeros.
 fn message(kind: Kind) -> Vec<u8> {
@@ -47,6 +48,30 @@ fn of_kinds(format: Format, kinds: &[(usize, Kind)]) -> [u8; CONTAINER] {
 /// Reads a container from a fresh state.
 fn read(format: Format, container: &[u8]) -> Result<Reading, Refusal> {
     judge(format, &Part::none(), container)
+}
+
+/// Fills a container from messages of kinds, with a tail of some bytes and no grant.
+fn fill_kinds(format: u32, tail: usize, kinds: &[Kind]) -> Filled {
+    let list = write_list(&kinds.iter().map(|&kind| message(kind)).collect::<Vec<_>>());
+    fill(format, &Part::of(&[1; 100][..tail]), Grant::default(), &list, CONTAINER).unwrap()
+}
+
+/// The granules at which messages start in a container.
+fn starts(format: Format, container: &[u8]) -> Vec<usize> {
+    let header = Header::read(format, container).unwrap();
+    (0..GRANULES).filter(|&g| header.starts[g]).collect()
+}
+
+/// The messages read out of containers from a fresh state.
+fn read_all(format: Format, containers: &[[u8; CONTAINER]]) -> Vec<Vec<u8>> {
+    let mut carry = Part::none();
+    let mut finished = Vec::new();
+    for container in containers {
+        let reading = judge(format, &carry, container).unwrap();
+        finished.extend(reading.finished);
+        carry = reading.carry;
+    }
+    finished
 }
 
 /// A receiver with one plane and no push, and one capacity.
@@ -170,17 +195,62 @@ fn every_kind_is_written_and_read() {
         for kind in KINDS {
             let messages = vec![message(kind); 9];
             let containers = pack(format, &write_list(&messages)).unwrap();
-            let mut carry = Part::none();
-            let mut finished = Vec::new();
-            for container in &containers {
-                let reading = judge(Format::from_number(format).unwrap(), &carry, container).unwrap();
-                finished.extend(reading.finished);
-                carry = reading.carry;
-            }
-            assert_eq!(finished, messages);
+            assert_eq!(read_all(Format::from_number(format).unwrap(), &containers), messages);
             assert!(containers.len() <= 18);
         }
     }
+}
+
+#[test]
+fn records_beneath_g5() {
+    for kind in [Kind::Resp, Kind::CrdtGrant, Kind::Connect] {
+        let filled = fill_kinds(1, 0, &[Kind::WrReqDataL, kind, kind]);
+        assert_eq!(starts(Format::Y, &filled.container), [0, 5, 7]);
+        assert_eq!(filled.beneath, [5]);
+        assert_eq!(starts(Format::X, &fill_kinds(0, 0, &[Kind::WrReqDataL, kind]).container), [0, 6]);
+    }
+}
+
+#[test]
+fn records_beneath_g11() {
+    for kind in [Kind::Resp, Kind::Connect] {
+        let filled = fill_kinds(1, 100, &[Kind::WrReqDataL, kind, Kind::ReqS]);
+        assert_eq!(starts(Format::Y, &filled.container), [6, 11]);
+        assert_eq!((filled.used, filled.tail.len), (121 + 11, 20));
+        assert_eq!(filled.beneath, [11]);
+    }
+}
+
+#[test]
+fn records_not_beneath() {
+    for kind in [Kind::Activation, Kind::Resp2, Kind::Property, Kind::ReqS] {
+        let filled = fill_kinds(1, 0, &[Kind::WrReqDataL, kind, Kind::Resp]);
+        assert_eq!(starts(Format::Y, &filled.container), [0, 7, 8]);
+    }
+    for kind in [Kind::Activation, Kind::CrdtGrant, Kind::Resp2, Kind::Property, Kind::LinkStatus] {
+        let filled = fill_kinds(1, 100, &[Kind::WrReqDataL, kind, Kind::Resp]);
+        assert_eq!(starts(Format::Y, &filled.container), [6]);
+        assert_eq!((filled.used, filled.tail.len), (121, 20));
+    }
+    let second = fill_kinds(1, 60, &[Kind::CrdtGrant, Kind::ReqL, Kind::Connect]);
+    assert_eq!(starts(Format::Y, &second.container), [3, 4, 7]);
+    assert_eq!(second.beneath, []);
+}
+
+#[test]
+fn orders_of_messages() {
+    let kinds = [Kind::WrReqDataL, Kind::Resp, Kind::Resp2, Kind::DataL, Kind::ReqS];
+    let messages = kinds.map(message).to_vec();
+    let returned = read_all(Format::Y, &pack(1, &write_list(&messages)).unwrap());
+    assert_eq!(returned, [1, 0, 2, 3, 4].map(|n| messages[n].clone()));
+    assert!(is_returned(Format::Y, &messages, &returned) && !is_returned(Format::X, &messages, &returned));
+    for (one, other) in [(0, 2), (0, 3), (0, 4), (1, 2)] {
+        let mut swapped = messages.clone();
+        swapped.swap(one, other);
+        assert!(!is_returned(Format::Y, &messages, &swapped));
+    }
+    assert!(!is_returned(Format::Y, &messages, &returned[1..]));
+    assert!(!is_returned(Format::Y, &messages, &[&returned[..], &returned[..1]].concat()));
 }
 
 #[test]

@@ -1,4 +1,4 @@
-//! Document 01 in plain Rust, written apart from the proved code to compare with it.
+//! The bench rules in plain Rust, written apart from the proved code to compare with it.
 
 pub mod cause;
 pub mod layout;
@@ -6,6 +6,7 @@ pub mod ledger;
 pub mod list;
 pub mod log;
 pub mod message;
+pub mod order;
 pub mod placement;
 pub mod reader;
 pub mod writer;

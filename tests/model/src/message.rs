@@ -38,6 +38,18 @@ pub const KINDS: [Kind; 14] = [
     Kind::Property,
 ];
 
+/// What a message pays: credits, or nothing.
+#[derive(Clone, Copy, PartialEq, Eq, Debug)]
+pub enum Charge {
+    Req,
+    Rsp,
+    Snp,
+    Dat,
+    Nothing,
+}
+
+pub const CHARGES: [Charge; 5] = [Charge::Req, Charge::Rsp, Charge::Snp, Charge::Dat, Charge::Nothing];
+
 impl Kind {
     /// The kind of a message, from its type in byte 0 and, in a MiscU, its op in byte 1.
     pub fn of(message: &[u8]) -> Option<Kind> {
@@ -101,6 +113,18 @@ impl Kind {
     /// Whether the message pays a REQ and a DAT.
     pub fn is_push(self) -> bool {
         matches!(self, Kind::WrReqDataS | Kind::WrReqDataL)
+    }
+
+    /// What the message pays.
+    pub fn charges(self) -> &'static [Charge] {
+        match self {
+            Kind::ReqS | Kind::ReqL => &[Charge::Req],
+            Kind::Resp | Kind::Resp2 => &[Charge::Rsp],
+            Kind::Snoop => &[Charge::Snp],
+            Kind::DataS | Kind::DataL => &[Charge::Dat],
+            Kind::WrReqDataS | Kind::WrReqDataL => &[Charge::Req, Charge::Dat],
+            _ => &[Charge::Nothing],
+        }
     }
 
     /// What the message counts for in the limit of four responses.

@@ -2,7 +2,7 @@
 
 use crate::cause::{refusal, require, Refusal, CONTAINER_LENGTH, HEADER_GRANT, NOT_VALID, TOO_LONG};
 use crate::layout::{granule_start, Format, Grant, Header, Part, CONTAINER, GRANULES};
-use crate::list::{records, LIST};
+use crate::list::{records, Record, LIST};
 use crate::message::Kind;
 use crate::placement::Placement;
 
@@ -12,6 +12,8 @@ pub struct Filled {
     pub container: [u8; CONTAINER],
     pub used: usize,
     pub tail: Part,
+    /// The small granules that hold a record beneath a longer message.
+    pub beneath: Vec<usize>,
 }
 
 /// Fills a container of a length, with causes 19, 1, 18, 4 and 17 in this order.
@@ -24,13 +26,9 @@ pub fn fill(format: u32, tail: &Part, grant: Grant, list: &[u8], container_len: 
     let records = records(list)?;
     let mut filling = Filling::new(format);
     filling.put_tail(tail.message());
-    let mut used = 0;
-    for record in records {
-        let Some(granule) = filling.place_for(&record.message, grant) else { break };
-        filling.put(&record.message, granule);
-        used = record.end;
-    }
-    Ok(Filled { container: filling.close(grant), used, tail: Part::of(&filling.tail) })
+    let used = filling.put_records(&records, grant);
+    let (container, tail) = (filling.close(grant), Part::of(&filling.tail));
+    Ok(Filled { container, used, tail, beneath: filling.beneath })
 }
 
 /// The containers that a fresh writer makes of a list that is right, with zero grants.
@@ -56,12 +54,38 @@ struct Filling {
     next: usize,
     /// What the next container owes.
     tail: Vec<u8>,
+    /// The small granules that hold a record beneath a longer message.
+    beneath: Vec<usize>,
 }
 
 impl Filling {
     /// A container of zeros.
     fn new(format: Format) -> Filling {
-        Filling { format, container: [0; CONTAINER], placement: Placement::default(), next: 0, tail: Vec::new() }
+        Filling {
+            format,
+            container: [0; CONTAINER],
+            placement: Placement::default(),
+            next: 0,
+            tail: Vec::new(),
+            beneath: Vec::new(),
+        }
+    }
+
+    /// Puts records in order until the list ends or one finds no place, and answers the bytes of list used.
+    fn put_records(&mut self, records: &[Record], grant: Grant) -> usize {
+        let mut used = 0;
+        let mut rest = records.iter().peekable();
+        while let Some(record) = rest.next() {
+            let Some(granule) = self.place_for(&record.message, grant) else { break };
+            self.put(&record.message, granule);
+            used = record.end;
+            let Some(small) = self.passed_over(granule) else { continue };
+            if let Some(next) = rest.next_if(|next| self.may_lie_beneath(&next.message, small)) {
+                self.put_beneath(&next.message, small);
+                used = next.end;
+            }
+        }
+        used
     }
 
     /// The lowest legal granule for a message, if there is one and nothing stops the fill.
@@ -79,6 +103,17 @@ impl Filling {
         kind.may_begin_at(self.format, granule) && placement.judge_groups().is_ok()
     }
 
+    /// The small granule that the message just put at a granule passes over, G11 if it goes on in the next container.
+    fn passed_over(&self, first: usize) -> Option<usize> {
+        let end = if self.tail.is_empty() { self.next } else { GRANULES };
+        (first + 1..end).find(|&g| self.format.is_small(g))
+    }
+
+    /// Whether a message may lie in a small granule beneath a longer one, which an Activation never does.
+    fn may_lie_beneath(&self, message: &[u8], small: usize) -> bool {
+        Kind::of(message).is_some_and(|kind| kind != Kind::Activation && self.is_legal(kind, small))
+    }
+
     /// Puts the owed tail from G0.
     fn put_tail(&mut self, tail: &[u8]) {
         self.put_bytes(tail, 0);
@@ -90,18 +125,30 @@ impl Filling {
         self.put_bytes(message, granule);
     }
 
+    /// Puts a message in a small granule beneath the longer one, whose rest stays the tail.
+    fn put_beneath(&mut self, message: &[u8], small: usize) {
+        self.placement.starts[small] = Kind::of(message);
+        self.put_part(message, small);
+        self.beneath.push(small);
+    }
+
     /// Puts bytes from a granule on, and owes those that find no room.
     fn put_bytes(&mut self, bytes: &[u8], from: usize) {
         let mut rest = bytes;
         for g in self.format.occupied(from, bytes.len()) {
             let (part, behind) = rest.split_at(rest.len().min(self.format.granule_size(g)));
-            let start = granule_start(g);
-            self.container[start..start + part.len()].copy_from_slice(part);
-            self.placement.populated[g] = true;
-            self.next = g + 1;
+            self.put_part(part, g);
             rest = behind;
         }
         self.tail = rest.to_vec();
+    }
+
+    /// Puts the part of a message that lies in one granule.
+    fn put_part(&mut self, part: &[u8], granule: usize) {
+        let start = granule_start(granule);
+        self.container[start..start + part.len()].copy_from_slice(part);
+        self.placement.populated[granule] = true;
+        self.next = self.next.max(granule + 1);
     }
 
     /// The container with its header.

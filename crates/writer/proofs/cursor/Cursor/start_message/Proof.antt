@@ -31,13 +31,16 @@ same-length c = search needs
 
 returns : tie.Need-returns
 returns c =
-    let start = c .before .before .before .before .before .before .before .before .before .before .before .before in
+    let start = c .before .before .before .before .before .before .before .before .before .before .before in
     let within = start .pre .1 .1 in
+    let first = c .before .before .before .before .before .before .before .byte-at in
+    let second = c .before .before .before .before .before .before .byte-at2 in
+    let test = c .before .before .before .before .before .admits in
     message-left (formatOf (start .args .format)) (start .args .grant) (start .args .list .now) (start .args .g) (start .args .self) (start .args .container .now) _ _ (start .args .skip) (start .args .end)
-    (c .before .before .before .before .before .before .before .before .byte-at .result % 16) (c .before .before .before .before .before .before .before .byte-at2 .result) (c .before .before .before .before .before .admits .result)
-    (message-type (start .args .list .now) (start .args .self .at) (start .args .skip) (start .args .end) (c .before .before .before .before .before .before .before .before .byte-at .result) (omega arith) (c .before .before .before .before .before .before .before .before .byte-at .ensures))
-    (message-op (start .args .list .now) (start .args .self .at) (start .args .skip) (start .args .end) (c .before .before .before .before .before .before .before .byte-at2 .result) (omega arith) (c .before .before .before .before .before .before .before .byte-at2 .ensures))
-    (c .before .before .before .before .before .admits .ensures) (c .before .before .before .before .if1 .taken) (c .before .before .pass-over .ensures)
+    (first .result % 16) (second .result) (test .result)
+    (message-type (start .args .list .now) (start .args .self .at) (start .args .skip) (start .args .end) (first .result) (omega arith) (first .ensures))
+    (message-op (start .args .list .now) (start .args .self .at) (start .args .skip) (start .args .end) (second .result) (omega arith) (second .ensures))
+    (test .ensures) (c .before .before .before .before .if1 .taken) (c .before .before .pass-over .ensures)
 
 measure-granule-requires : tie.Need-measure-granule-requires
 measure-granule-requires c κs = search needs
@@ -47,7 +50,7 @@ add-cut-end c = search needs
 
 cut-end-requires : tie.Need-cut-end-requires
 cut-end-requires c κs =
-    let start = c .before .before .before .before .before .before .before .before .before .before in
+    let start = c .before .before .before .before .before .before .before .before .before in
     let most = lawful-of (start .args .format) .most (start .args .g) (start .pre .0 .1) in
     let within = start .pre .1 .1 in
     let long = start .pre .0 .2 in
@@ -67,27 +70,31 @@ fill-granule-requires c κs = search needs
 
 take-record-requires : tie.Need-take-record-requires
 take-record-requires c κs =
-    let start = c .before .before .before .before .before .before .before .before .before .before .before .before .before .before .before .before in
+    let start = c .before .before .before .before .before .before .before .before .before .before .before .before .before .before .before in
     let most = lawful-of (start .args .format) .most (start .args .g) (start .pre .0 .1) in
     let within = start .pre .1 .1 in
     let long = start .pre .0 .2 in
-    let sane = start .pre .1 .0 in
-    (sane .few, ((omega arith, omega arith, rw (c .before .before .before .before .before .before .before .measure-granule .ensures) most), (start .pre .0 .1, sane .starts-low)))
+    let group = start .pre .1 .0 in
+    ((group .0, group .1), ((omega arith, omega arith, rw (c .before .before .before .before .before .before .before .measure-granule .ensures) most), (start .pre .0 .1, group .2)))
 
 same-length-2 : tie.Need-same-length-2
 same-length-2 c = search needs
 
 returns-2 : tie.Need-returns-2
 returns-2 c =
-    let start = c .before .before .before .before .before .before .before .before .before .before .before .before .before .before .before .before .before in
+    let start = c .before .before .before .before .before .before .before .before .before .before .before .before .before .before .before .before in
     let within = start .pre .1 .1 in
+    let first = c .before .before .before .before .before .before .before .before .before .before .before .before .byte-at in
+    let second = c .before .before .before .before .before .before .before .before .before .before .before .byte-at2 in
+    let test = c .before .before .before .before .before .before .before .before .before .before .admits in
     let size = c .before .before .before .before .before .before .before .before .measure-granule in
-    let taken = message-part (start .args .list .now) (start .args .self .at) (start .args .skip) (start .args .end) (size .result) (c .before .before .before .before .before .before .cut-end .result) (omega arith) (c .before .before .before .before .before .before .cut-end .ensures .3) in
+    let stop = c .before .before .before .before .before .before .cut-end in
+    let taken = message-part (start .args .list .now) (start .args .self .at) (start .args .skip) (start .args .end) (size .result) (stop .result) (omega arith) (stop .ensures .3) in
     message-started (formatOf (start .args .format)) (start .args .grant) (start .args .list .now) (start .args .g) (start .args .self) (start .args .container .now) _ _ (start .args .skip) (start .args .end)
-    (c .before .before .before .before .before .before .before .before .before .before .before .before .before .byte-at .result % 16) (c .before .before .before .before .before .before .before .before .before .before .before .before .byte-at2 .result) (c .before .before .before .before .before .before .before .before .before .before .admits .result)
-    (message-type (start .args .list .now) (start .args .self .at) (start .args .skip) (start .args .end) (c .before .before .before .before .before .before .before .before .before .before .before .before .before .byte-at .result) (omega arith) (c .before .before .before .before .before .before .before .before .before .before .before .before .before .byte-at .ensures))
-    (message-op (start .args .list .now) (start .args .self .at) (start .args .skip) (start .args .end) (c .before .before .before .before .before .before .before .before .before .before .before .before .byte-at2 .result) (omega arith) (c .before .before .before .before .before .before .before .before .before .before .before .before .byte-at2 .ensures))
-    (c .before .before .before .before .before .before .before .before .before .before .admits .ensures) (c .before .before .before .before .before .before .before .before .before .if1 .left)
+    (first .result % 16) (second .result) (test .result)
+    (message-type (start .args .list .now) (start .args .self .at) (start .args .skip) (start .args .end) (first .result) (omega arith) (first .ensures))
+    (message-op (start .args .list .now) (start .args .self .at) (start .args .skip) (start .args .end) (second .result) (omega arith) (second .ensures))
+    (test .ensures) (c .before .before .before .before .before .before .before .before .before .if1 .left)
     (rw (size .ensures) at (c .take-record .ensures), rw (taken, size .ensures) at (c .before .before .before .fill-granule .ensures))
 
 pub start-message-spec : {M : Type 1} → statement M

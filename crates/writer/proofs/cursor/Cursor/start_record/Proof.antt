@@ -31,9 +31,9 @@ start-message-requires : tie.Need-start-message-requires
 start-message-requires c κs =
     let start = c .before .before .before .before .before .before .before .before in
     let first = c .before .before .first .given in
-    let sane = start .pre .1 in
-    let whole = first-record (start .args .list .now) (start .args .self .at) (first .0 .0) (first .0 .1 .0) (sane .used) (found (start .args .list .now) (start .args .self .at) (c .before .before .before .before .read-record .result) (Whole (first .0 .0) (first .0 .1 .0)) (c .before .before .before .before .read-record .ensures) (first .1)) in
-    (start .pre .0, (sane, (whole .ten, whole .inside)))
+    let group = start .pre .1 in
+    let whole = first-record (start .args .list .now) (start .args .self .at) (first .0 .0) (first .0 .1 .0) (group .3) (found (start .args .list .now) (start .args .self .at) (c .before .before .before .before .read-record .result) (Whole (first .0 .0) (first .0 .1 .0)) (c .before .before .before .before .read-record .ensures) (first .1)) in
+    (start .pre .0, ((group .0, group .1, group .2), (whole .ten, whole .inside)))
 
 same-length : tie.Need-same-length
 same-length c = search needs

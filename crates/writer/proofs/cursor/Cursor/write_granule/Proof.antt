@@ -2,7 +2,7 @@
 use borrow.Author.Needs.{needs}
 use mathlib.Core.Path.{sym, _∙_}
 use Rattle.container.specs.Layout.{formatOf}
-use Rattle.writer.proofs.CursorCases.{next-first, next-on, next-empty}
+use Rattle.writer.proofs.CursorCases.{next-first, next-on, next-over}
 use Rattle.writer.proofs.cursor.Cursor.write_granule.Statement.{statement}
 use Rattle.writer.proofs.cursor.Cursor.write_granule.Tie as tie
 
@@ -31,8 +31,8 @@ returns-2 c =
     let start = c .before .before .before .before .before .before .before .before .before .before .before in
     next-on (formatOf (start .args .format)) (start .args .grant) (start .args .list .now) (start .args .g) (start .args .self) (start .args .container .now) _ _ (start .args .tail .now) (c .before .before .before .before .before .before .if1 .left) (sym (c .before .before .before .before .before .measure-granule .ensures) ∙ c .before .before .before .before .if2 .taken) (c .before .before .go-on .ensures)
 
-pass-over-requires : tie.Need-pass-over-requires
-pass-over-requires c κs = search needs
+start-record-requires-2 : tie.Need-start-record-requires-2
+start-record-requires-2 c κs = search needs
 
 same-length-3 : tie.Need-same-length-3
 same-length-3 c = search needs
@@ -40,7 +40,7 @@ same-length-3 c = search needs
 returns-3 : tie.Need-returns-3
 returns-3 c =
     let start = c .before .before .before .before .before .before .before .before .before .before .before in
-    next-empty (formatOf (start .args .format)) (start .args .grant) (start .args .list .now) (start .args .g) (start .args .self) (start .args .container .now) _ _ (start .args .tail .now) (c .before .before .before .before .before .before .if1 .left) (λ e. c .before .before .before .before .if2 .left (c .before .before .before .before .before .measure-granule .ensures ∙ e)) (c .before .before .pass-over .ensures)
+    next-over (formatOf (start .args .format)) (start .args .grant) (start .args .list .now) (start .args .g) (start .args .self) (start .args .container .now) _ _ (start .args .tail .now) (c .before .before .before .before .before .before .if1 .left) (λ e. c .before .before .before .before .if2 .left (c .before .before .before .before .before .measure-granule .ensures ∙ e)) (c .before .before .start-record2 .ensures)
 
 pub write-granule-spec : {M : Type 1} → statement M
 write-granule-spec =
@@ -53,6 +53,6 @@ write-granule-spec =
     go-on-requires
     same-length-2
     returns-2
-    pass-over-requires
+    start-record-requires-2
     same-length-3
     returns-3)
