@@ -19,3 +19,4 @@ pub mod LaidLaws
 pub mod StateCases
 pub mod TailLaws
 pub mod AnswerLaws
+pub mod StartedHere
