@@ -242,11 +242,10 @@ impl Cursor {
         ensures cursor { λ r. ⌜ r ≡ cursorNext (formatOf format) grant (now (tail .entry)) (now (list .entry)) g self ⌝ }
         ensures bytes { λ _. ⌜ now (container .exit) ≡ put (start g) (pad (formatOf format .size g) (bytesNext (formatOf format) grant (now (tail .entry)) (now (list .entry)) g self)) (now (container .entry)) ⌝ }
     {
-        if self.left == 0 {
-            return self.start_record(format, grant, list, g, container);
-        }
-        if measure_granule(format, g) == 20 {
-            return self.go_on(format, tail, list, g, container);
+        if self.left > 0 {
+            if measure_granule(format, g) == 20 {
+                return self.go_on(format, tail, list, g, container);
+            }
         }
         self.start_record(format, grant, list, g, container)
     }
