@@ -41,7 +41,7 @@ marked = record {
 -- what lies beneath a longer message
 pub beneath : Beneath
 unfolding number readNumber faultFrom listFault cells carryAfter endings startings granuleChecks groupChecks containerChecks stateChecks readChecks nextReader records reading plan cursorLast setAll layCells containerOf filled owesAfter usedOf callChecks fillFault filling fillBytes
-beneath = record { under-g5 = refl; under-g5-read = refl; in-x = refl; activation = refl; under-g11 = refl; under-g11-bytes = refl }
+beneath = record { under-g5 = refl; under-g5-read = refl; in-x = refl; never-early = refl; under-g11 = refl; under-g11-bytes = refl }
 
 -- the orders in which a start and two grants pass
 pub orders : Orders

@@ -11,7 +11,7 @@ abbrev pub keep : {A : Type 0} → (A → Bool) → List A → List A
 keep test [] = []
 keep test (x ∷ l) = pick (test x) (x ∷ []) [] ++ keep test l
 
--- the elements of a are those of b, where an element is of class k if it passes the test of k
+-- a is b in another order; an element is of class k where it passes the test of k
 pub record Reordered {A : Type 0} (classes : ℕ → A → Bool) (a b : List A) : Type 0 where
   -- whatever is counted, there are as many in a as in b
   pub each-once : (test : A → Bool) → length (keep test a) ≡ length (keep test b)

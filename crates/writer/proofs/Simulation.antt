@@ -52,7 +52,7 @@ pub record Follows (fm : Format) (g : ℕ) (m t : List ℕ) (us : List (List ℕ
 -- a cell that keeps its five rules
 cell-passes : (fm : Format) (g : ℕ) (e : Cell) → startsAlone e ≡ true → startKnown e ≡ true → startPlaced fm g e ≡ true → startHeaded e ≡ true
     → restZero e ≡ true → Pass (cellChecks fm g e)
-cell-passes fm g e alone known placed headed rest = (alone, (known, (placed, (headed, (rest, tt)))))
+cell-passes fm g e alone known placed headed zero = (alone, (known, (placed, (headed, (zero, tt)))))
 
 idle-nothing : (fm : Format) (g : ℕ) → Follows fm g [] [] [] (emptyCell (fm .size g)) []
 idle-nothing fm g = record {

@@ -77,7 +77,7 @@ pub record SameMessages (f : ℕ) (out taken : List (List ℕ)) : Type 0 where
   -- in X no granule is passed over, and all are in the same order
   pub in-x : f ≡ 0 → out ≡ taken
 
--- a new reader hands out the messages that were used
+-- what a new reader hands out of containers is all messages that were used
 pub record AllOut (f : ℕ) (cs : List (List ℕ)) (ns : List Grant) (used : List ℕ) : Type 0 where
   pub reader : Reader
   pub out : List (List ℕ)
@@ -86,7 +86,7 @@ pub record AllOut (f : ℕ) (cs : List (List ℕ)) (ns : List Grant) (used : Lis
   pub is-used : used ≡ recordsOf taken
   pub same : SameMessages f out taken
 
--- before the tail of a writer is paid: what it has handed out and what is under way, together
+-- before the tail of the writer w is paid, what it hands out and what is under way are, together, the messages that were used
 pub record OutSoFar (f : ℕ) (cs : List (List ℕ)) (ns : List Grant) (used : List ℕ) (w : Writer) : Type 0 where
   pub reader : Reader
   pub out : List (List ℕ)
