@@ -35,7 +35,7 @@ use Rattle.writer.specs.Calls.{AllOut, Fills, Filling, FillingList, none
 use Rattle.writer.specs.declared.writer.Writer.{Writer}
 use Rattle.writer.proofs.Simulation.{Link, idle, busy, begun, message-most, short-ended, piece-ended, Left, sizeLength, is-next, legal-placed, beneath-legal, beneath-ended, Steps, give-next, give-on, give-beneath, give-over, give-last, step-followed}
 use Rattle.writer.proofs.Run.{Ran}
-use Rattle.writer.proofs.Shuffled.{shuffled-length}
+use Rattle.writer.proofs.OtherOrder.{other-order-length}
 use Rattle.writer.proofs.Return.{all-returned}
 use Rattle.writer.proofs.RoundTrip.{link-most, tail-of, ran, is-filled, Linked, list-left}
 
@@ -206,7 +206,7 @@ fewer : (f : ℕ) (m t l : List ℕ) (ms : List (List ℕ)) (link : Link m t) (l
     → (w : Cursor) → (r : Ran (formatOf f) l 0 m t 0 ms (plan (formatOf f) zeroGrant l 12 0 (cursorOf t)) w)
     → unfinished (carryAfter (formatOf f) 0 (plan (formatOf f) zeroGrant l 12 0 (cursorOf t)) m) (w .owes) (r .rest) < unfinished m t ms
 fewer f m t l ms link left p w r =
-    let e = simp length-append at (shuffled-length (r .out)) in let d = simp length-append at (ap length (r .split)) in omega (arith, finishes-one f m t l ms link left p)
+    let e = simp length-append at (other-order-length (r .out)) in let d = simp length-append at (ap length (r .split)) in omega (arith, finishes-one f m t l ms link left p)
 
 -- ---- progress
 
@@ -281,7 +281,7 @@ one-less : (f : ℕ) (m t l : List ℕ) (ms : List (List ℕ)) (link : Link m t)
     → unfinished (carryAfter (formatOf f) 0 (plan (formatOf f) zeroGrant l 12 0 (cursorOf t)) m) (w .owes) (r .rest) ≤ unfinished m t ms - 1
 one-less f m t l ms link left w r =
     ⊎-elim (λ (p : 0 < unfinished m t ms). omega (arith, fewer f m t l ms link left p w r))
-    (λ (p : unfinished m t ms ≤ 0). let e = simp length-append at (shuffled-length (r .out)) in let d = simp length-append at (ap length (r .split)) in omega arith) (lt-or-le 0 (unfinished m t ms))
+    (λ (p : unfinished m t ms ≤ 0). let e = simp length-append at (other-order-length (r .out)) in let d = simp length-append at (ap length (r .split)) in omega arith) (lt-or-le 0 (unfinished m t ms))
 
 module _ (f : ℕ) (l : List ℕ) (k at : ℕ) (w : Writer) (g : Going f l k at w) where
   -- one fill more

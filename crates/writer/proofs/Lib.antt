@@ -1,4 +1,4 @@
-pub mod Shuffled
+pub mod OtherOrder
 pub mod Simulation
 pub mod Run
 pub mod GroupLaws

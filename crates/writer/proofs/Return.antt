@@ -14,7 +14,7 @@ use Rattle.reader.specs.declared.reader.Reader.{Reader}
 use Rattle.writer.specs.Filling.{tailOf, writerWith}
 use Rattle.writer.specs.Calls.{AllOut, OutSoFar, Filling, none, then, FillingLeft, Reading, underWay}
 use Rattle.writer.specs.declared.writer.Writer.{Writer}
-use Rattle.writer.proofs.Shuffled.{Shuffled, unchanged, shuffled-on, shuffled-through, same-messages}
+use Rattle.writer.proofs.OtherOrder.{OtherOrder, unchanged, other-order-on, other-order-through, same-messages}
 use Rattle.writer.proofs.Simulation.{idle}
 use Rattle.writer.proofs.RoundTrip.{Linked, fill-read}
 
@@ -26,7 +26,7 @@ pub record Returned (f : ℕ) (cs : List (List ℕ)) (ns : List Grant) (used : L
   pub taken : List (List ℕ)
   pub readings : Reading (readerWith f []) cs ns (recordsOf out) reader
   pub is-used : used ≡ recordsOf taken
-  pub same : Shuffled (formatOf f) (out ++ underWay reader w) taken
+  pub same : OtherOrder (formatOf f) (out ++ underWay reader w) taken
   pub linked : Linked f reader w
 
 pub return-of-messages : (f : ℕ) (cs : List (List ℕ)) (ns : List Grant) (used : List ℕ) (w : Writer) → f < 2
@@ -49,7 +49,7 @@ return-of-messages f cs ns used w small (then {cs = cs₁} {ns = ns₁} {used = 
       taken = r .taken ++ k .taken;
       readings = subst (λ (x : List ℕ). Reading (readerWith f []) cs ns x (k .next)) (sym (records-append (r .out) (k .out))) (then (r .readings) (k .reads));
       is-used = ap (λ (x : List ℕ). x ++ take u l) (r .is-used) ∙ ap (λ (x : List ℕ). recordsOf (r .taken) ++ x) (k .used) ∙ sym (records-append (r .taken) (k .taken));
-      same = shuffled-through (r .out) (underWay (r .reader) w₁) (r .taken) (k .out) (underWay (k .next) w) (k .taken) (r .same) (k .same);
+      same = other-order-through (r .out) (underWay (r .reader) w₁) (r .taken) (k .out) (underWay (k .next) w) (k .taken) (r .same) (k .same);
       linked = k .linked;
     }
 
@@ -65,7 +65,7 @@ pub all-returned : (f : ℕ) (cs : List (List ℕ)) (ns : List Grant) (used : Li
 all-returned f cs ns used w small h e =
     let r = return-of-messages f cs ns used w small h in
     let all : r .out ≡ r .out ++ underWay (r .reader) w = sym (rw (eq-eqb (length (tailOf w)) 0 e) (append-nil (r .out))) in
-    record { reader = r .reader; out = r .out; taken = r .taken; readings = r .readings; is-used = r .is-used; same = same-messages f (shuffled-on (unchanged all) (r .same)) }
+    record { reader = r .reader; out = r .out; taken = r .taken; readings = r .readings; is-used = r .is-used; same = same-messages f (other-order-on (unchanged all) (r .same)) }
 
 -- fills of one list, each with what is left of it, use its front
 pub left-fills : {w : Writer} {l : List ℕ} {cs : List (List ℕ)} {ns : List Grant} {at : ℕ} {w′ : Writer} → FillingLeft w l cs ns at w′

@@ -38,7 +38,7 @@ use Rattle.writer.specs.Filling.{tailOf, writerWith, callChecks, fillFau
 use Rattle.writer.specs.Calls.{Fills, Reads, underWay}
 use Rattle.writer.specs.declared.writer.Writer.{Writer}
 use Rattle.writer.specs.declared.writer.Answer.the-variants as answer
-use Rattle.writer.proofs.Shuffled.{Shuffled, unchanged, shuffled-on}
+use Rattle.writer.proofs.OtherOrder.{OtherOrder, unchanged, other-order-on}
 use Rattle.writer.proofs.Simulation.{Link, idle, busy, begun, message-most, size-m, owed-m, start-head, legal-placed, Left, is-next, beneath-legal, give-next, give-not, give-none, give-on, give-beneath, give-over, give-last, step-followed}
 use Rattle.writer.proofs.Run.{Written, Ran, plan-followed, cells-shown}
 use Rattle.writer.proofs.PlanLaws.{plan-length}
@@ -284,7 +284,7 @@ pub record Read (f : ℕ) (s : Reader) (w : Writer) (l c : List ℕ) (n : Grant)
   pub reads : Reads s c n (recordsOf out) next
   pub linked : Linked f next w′
   pub used : take u l ≡ recordsOf taken
-  pub same : Shuffled (formatOf f) (out ++ underWay next w′) (underWay s w ++ taken)
+  pub same : OtherOrder (formatOf f) (out ++ underWay next w′) (underWay s w ++ taken)
 
 -- a list that is accepted is one of records
 pub list-left : (l : List ℕ) → IsBytes l → listFault l ≡ Sound → (ms : List (List ℕ)) × Left l 0 ms
@@ -307,8 +307,8 @@ module _ (f : ℕ) (small : f < 2) (m t l c : List ℕ) (n : Grant) (u : ℕ) (w
         linked = record { format = small; carry = m′; tail = t′; reader = refl; writer = sym (h .next); link = r .link };
         used = records-taken (r .taken) (r .rest) ms l u (r .split) (subst (λ (k : ℕ). drop k l ≡ recordsOf (r .rest)) (h .used) (r .left .records)) (left .records);
         same =
-            shuffled-on (unchanged (ap (λ (x : Writer). es ++ underWay (readerWith f m′) x) (sym (h .next)) ∙ ap (λ (x : List (List ℕ)). es ++ x) (under-way f m′ t′)))
-            (shuffled-on (r .out) (unchanged (ap (λ (x : List (List ℕ)). x ++ r .taken) (sym (under-way f m t)))));
+            other-order-on (unchanged (ap (λ (x : Writer). es ++ underWay (readerWith f m′) x) (sym (h .next)) ∙ ap (λ (x : List (List ℕ)). es ++ x) (under-way f m′ t′)))
+            (other-order-on (r .out) (unchanged (ap (λ (x : List (List ℕ)). x ++ r .taken) (sym (under-way f m t)))));
       }
 
 pub fill-read : (f : ℕ) (s : Reader) (w : Writer) (l c : List ℕ) (n : Grant) (u : ℕ) (w′ : Writer)

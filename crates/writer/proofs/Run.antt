@@ -13,7 +13,7 @@ use Rattle.container.specs.declared.grant.Grant.{Grant}
 use Rattle.reader.specs.Cells.{Cell, owed, cellAt, after, ended, cells, carryAfter, endings}
 use Rattle.reader.specs.Checking.{cellChecks}
 use Rattle.writer.specs.Plan.{Cursor, Given, give, cursorAfter, plan, cursorLast}
-use Rattle.writer.proofs.Shuffled.{Shuffled, unchanged, shuffled-on, shuffled-through}
+use Rattle.writer.proofs.OtherOrder.{OtherOrder, unchanged, other-order-on, other-order-through}
 use Rattle.writer.proofs.Simulation.{Link, begun, Left, Steps, step-followed}
 
 -- a cell of the writer, with m read before it: as the reader sees it, of its granule's size, and with its rules kept
@@ -35,7 +35,7 @@ pub record Ran (fm : Format) (l : List ℕ) (g : ℕ) (m t : List ℕ) (at : ℕ
   pub split : ms ≡ taken ++ rest
   pub left : Left l (w .at) rest
   pub link : Link (carryAfter fm g es m) (w .owes)
-  pub out : Shuffled fm (endings fm g es m ++ begun (carryAfter fm g es m) (w .owes)) (begun m t ++ taken)
+  pub out : OtherOrder fm (endings fm g es m ++ begun (carryAfter fm g es m) (w .owes)) (begun m t ++ taken)
   pub moved : ((rest ≡ ms) × (w .at ≡ at)) ⊎ (at < w .at)
 
 -- two steps along the list
@@ -76,8 +76,8 @@ module _ (fm : Format) (n : Grant) (l : List ℕ) where
             left = r .left;
             link = r .link;
             out =
-                shuffled-on
-                (shuffled-through (ended (v .cell) m) (begun m′ (v .owes)) (begun m (w .owes) ++ s .taken) (endings fm (g + 1) es m′)
+                other-order-on
+                (other-order-through (ended (v .cell) m) (begun m′ (v .owes)) (begun m (w .owes) ++ s .taken) (endings fm (g + 1) es m′)
                 (begun (carryAfter fm (g + 1) es m′) (cursorLast fm n l k (g + 1) (cursorAfter g w v) .owes)) (r .taken) (f .out) (r .out))
                 (unchanged (append-assoc (begun m (w .owes)) (s .taken) (r .taken)));
             moved = moved-on (s .moved) (r .moved);

@@ -29,7 +29,7 @@ use Rattle.record.proofs.RecordLaws.{first-written, message-some}
 use Rattle.reader.specs.Cells.{Cell, owed, whole, after, ended}
 use Rattle.reader.specs.Checking.{startsAlone, startKnown, startPlaced, startHeaded, restZero, cellChecks}
 use Rattle.writer.specs.Plan.{emptyCell, startCell, onCell, groupOk, legal, neverEarly, beneath, Cursor, Given, nothing, give}
-use Rattle.writer.proofs.Shuffled.{Shuffled, unchanged}
+use Rattle.writer.proofs.OtherOrder.{OtherOrder, unchanged}
 
 -- what the reader has of a message and what the writer owes of it: neither, or whole granules of one message, some of each
 pub data Link : List ℕ → List ℕ → Type 0 where
@@ -47,7 +47,7 @@ pub record Follows (fm : Format) (g : ℕ) (m t : List ℕ) (us : List (List ℕ
   pub long : length (e .bytes) ≡ fm .size g
   pub fine : Pass (cellChecks fm g e)
   pub link : Link (after fm g e m) o
-  pub out : Shuffled fm (ended e m ++ begun (after fm g e m) o) (begun m t ++ us)
+  pub out : OtherOrder fm (ended e m ++ begun (after fm g e m) o) (begun m t ++ us)
 
 -- a cell that keeps its five rules
 cell-passes : (fm : Format) (g : ℕ) (e : Cell) → startsAlone e ≡ true → startKnown e ≡ true → startPlaced fm g e ≡ true → startHeaded e ≡ true

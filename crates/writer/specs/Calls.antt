@@ -86,7 +86,7 @@ pub record AllOut (f : ℕ) (cs : List (List ℕ)) (ns : List Grant) (used : Lis
   pub is-used : used ≡ recordsOf taken
   pub same : SameMessages f out taken
 
--- before the tail of the writer w is paid, what it hands out and what is under way are, together, the messages that were used
+-- before the tail of the writer w is paid, what a new reader hands out and what is under way are, together, the messages that were used
 pub record OutSoFar (f : ℕ) (cs : List (List ℕ)) (ns : List Grant) (used : List ℕ) (w : Writer) : Type 0 where
   pub reader : Reader
   pub out : List (List ℕ)
