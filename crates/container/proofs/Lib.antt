@@ -1,3 +1,3 @@
 pub mod Formats
-pub mod Chunks
+pub mod ZeroTest
 pub mod FrontLaws

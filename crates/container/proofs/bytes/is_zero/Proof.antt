@@ -1,76 +1,61 @@
 -- `container::bytes::is_zero` meets its contract.
-use Prim.Native.Nat.{_+_, _≤_, _-_}
+use Prim.Native.Nat.{_-_}
 use mathlib.Core.Path.{_≡_, refl}
 use native.Mathlib.Omega.{arith}
+use native.Mathlib.Nat.{zero-add}
 use borrow.Author.Needs.{needs}
-use borrow.Author.Tests.{ne-eqb}
-use lib.ListN.{length, drop}
-use Rattle.lists.specs.Parts.{zeros}
-use Rattle.lists.proofs.PartLaws.{rest-is, length-rest}
-use Rattle.lists.proofs.ZeroLaws.{zeros-sum}
-use Rattle.container.proofs.Chunks.{zeros-chunk}
+use lib.ListN.{length}
+use lib.Dec.{eqb}
+use lib.Bits.{bitOr}
+use Rattle.lists.specs.Parts.{part, zeros}
+use Rattle.container.proofs.ZeroTest.{joined-zero, or-zero, ends-zero}
 use Rattle.container.proofs.bytes.is_zero.Statement.{statement}
 use Rattle.container.proofs.bytes.is_zero.Tie as tie
 
 abbrev Inv-loop : tie.InvT-loop
-Inv-loop part i₀ i = (i ≤ length part) × (zeros part ≡ zeros (drop i part))
+Inv-loop bytes last bits₀ i₀ bits i = eqb bits 0 ≡ zeros (part 0 i bytes)
 
 abbrev μ-loop : tie.MeasureT-loop
-μ-loop part i₀ i = length part - i
+μ-loop bytes last bits₀ i₀ bits i = length bytes - i
 
-loop-holds : tie.Need-loop-holds Inv-loop μ-loop
-loop-holds c = (omega arith, refl)
-
-sub-loop : tie.Need-sub-loop Inv-loop μ-loop
-sub-loop c = omega arith
-
-add-end : tie.Need-add-end Inv-loop μ-loop
-add-end c = omega arith
-
-sub-sum-bytes : tie.Need-sub-sum-bytes Inv-loop μ-loop
-sub-sum-bytes c = omega arith
-
-part-sum-bytes-start : tie.Need-part-sum-bytes-start Inv-loop μ-loop
-part-sum-bytes-start c = search needs
-
-part-sum-bytes-end : tie.Need-part-sum-bytes-end Inv-loop μ-loop
-part-sum-bytes-end c = search needs
-
-sum-bytes-requires : tie.Need-sum-bytes-requires Inv-loop μ-loop
-sum-bytes-requires c κs = search needs
+is-short-zero-requires : tie.Need-is-short-zero-requires Inv-loop μ-loop
+is-short-zero-requires c κs = search needs
 
 returns : tie.Need-returns Inv-loop μ-loop
-returns c =
-    let at-loop = c .before .before .before .before in
-    let i = at-loop .loop .i in
-    let s = c .before .sum-bytes .result in
-    rw (zeros-chunk (at-loop .before .before .args .part .now) i (i + 256) s (omega arith) (at-loop .loop .inv .1) (c .before .sum-bytes .ensures), ne-eqb s 0 (c .if1 .taken))
+returns c = c .is-short-zero .ensures
+
+sub-last : tie.Need-sub-last Inv-loop μ-loop
+sub-last c = search needs
+
+loop-holds : tie.Need-loop-holds Inv-loop μ-loop
+loop-holds c = refl
+
+merge-sixteen-requires : tie.Need-merge-sixteen-requires Inv-loop μ-loop
+merge-sixteen-requires c κs = omega arith
+
+add-i : tie.Need-add-i Inv-loop μ-loop
+add-i c = search needs
 
 loop-less : tie.Need-loop-less Inv-loop μ-loop
 loop-less c = omega arith
 
 loop-again : tie.Need-loop-again Inv-loop μ-loop
 loop-again c =
-    let at-loop = c .before .before .before .before in
+    let at-loop = c .before .before in
+    let l = at-loop .before .before .before .args .part .now in
+    let bits = at-loop .loop .bits in
+    let more = c .merge-sixteen .result in
     let i = at-loop .loop .i in
-    let s = c .before .sum-bytes .result in
-    let split = zeros-chunk (at-loop .before .before .args .part .now) i (i + 256) s (omega arith) (at-loop .loop .inv .1) (c .before .sum-bytes .ensures) in
-    (omega arith, rw (c .if1 .left) at split)
+    joined-zero l 0 i 16 bits more (bitOr bits more) (at-loop .loop .inv) (rw (zero-add i) (c .merge-sixteen .ensures)) (or-zero bits more)
 
-sub-sum-bytes-2 : tie.Need-sub-sum-bytes-2 Inv-loop μ-loop
-sub-sum-bytes-2 c = omega arith
-
-part-sum-bytes-start-2 : tie.Need-part-sum-bytes-start-2 Inv-loop μ-loop
-part-sum-bytes-start-2 c = search needs
-
-part-sum-bytes-end-2 : tie.Need-part-sum-bytes-end-2 Inv-loop μ-loop
-part-sum-bytes-end-2 c = search needs
-
-sum-bytes-requires-2 : tie.Need-sum-bytes-requires-2 Inv-loop μ-loop
-sum-bytes-requires-2 c κs = rw length-rest (omega arith)
+merge-sixteen-requires-2 : tie.Need-merge-sixteen-requires-2 Inv-loop μ-loop
+merge-sixteen-requires-2 c κs = omega arith
 
 returns-2 : tie.Need-returns-2 Inv-loop μ-loop
-returns-2 c = rw (c .sum-bytes2 .ensures, zeros-sum, rest-is, c .before .before .before .loop .inv .1)
+returns-2 c =
+    let at-loop = c .before .before in
+    let l = at-loop .before .before .before .args .part .now in
+    ends-zero l (at-loop .loop .i) 16 (at-loop .loop .bits) (c .merge-sixteen2 .result) (omega arith) (omega arith) (at-loop .loop .inv) (c .merge-sixteen2 .ensures)
 
 pub is-zero-spec : {M : Type 1} → statement M
 is-zero-spec =
@@ -78,18 +63,13 @@ is-zero-spec =
     (tie.spec
     Inv-loop
     μ-loop
-    loop-holds
-    sub-loop
-    add-end
-    sub-sum-bytes
-    part-sum-bytes-start
-    part-sum-bytes-end
-    sum-bytes-requires
+    is-short-zero-requires
     returns
+    sub-last
+    loop-holds
+    merge-sixteen-requires
+    add-i
     loop-less
     loop-again
-    sub-sum-bytes-2
-    part-sum-bytes-start-2
-    part-sum-bytes-end-2
-    sum-bytes-requires-2
+    merge-sixteen-requires-2
     returns-2)
