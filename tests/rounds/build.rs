@@ -18,7 +18,9 @@ fn rewrite_path(path: &str, name: &str) -> String {
 
 /// The name of the function whose header begins on a line.
 fn function_name(code: &str) -> Option<&str> {
-    let rest = ["fn ", "pub fn ", "pub(crate) fn ", "pub extern \"C\" fn "].iter().find_map(|start| code.strip_prefix(start))?;
+    let rest = ["fn ", "pub fn ", "pub(crate) fn ", "pub extern \"C\" fn "]
+        .iter()
+        .find_map(|start| code.strip_prefix(start))?;
     rest.split('(').next()
 }
 
