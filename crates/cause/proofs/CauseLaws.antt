@@ -26,10 +26,9 @@ use Rattle.cause.specs.declared.Cause.the-variants.{
   BrokenRecord,
   TooLong,
   InvalidState,
-  ThirdContainer,
 }
 
--- the causes by number; there is no cause 0
+-- the causes by number; InvalidState stands where a number is no cause's
 causes : List Cause
 causes =
     InvalidState
@@ -52,7 +51,6 @@ causes =
     ∷ BrokenRecord
     ∷ TooLong
     ∷ InvalidState
-    ∷ ThirdContainer
     ∷ []
 
 numbered : ℕ → Cause
@@ -79,14 +77,21 @@ numbered-back GrantedOverCapacity = refl
 numbered-back BrokenRecord = refl
 numbered-back TooLong = refl
 numbered-back InvalidState = refl
-numbered-back ThirdContainer = refl
 
 -- two causes with one number are one
 pub same-number : (a b : Cause) → causeNumber a ≡ causeNumber b → a ≡ b
 same-number a b e = sym (numbered-back a) ∙ ap numbered e ∙ numbered-back b
 
--- no number is over 20
-pub number-most : (c : Cause) → causeNumber c ≤ 20
+-- 20 is retired: no cause has it
+pub retired : (c : Cause) → causeNumber c ≡ 20 → ⊥
+unfolding numbered causes
+retired c e =
+    let none : c ≡ InvalidState = sym (numbered-back c) ∙ ap numbered e in
+    let n : causeNumber c ≡ 19 = ap causeNumber none in
+    omega arith
+
+-- no number is over 19
+pub number-most : (c : Cause) → causeNumber c ≤ 19
 number-most ContainerLength = omega arith
 number-most RoomTooSmall = omega arith
 number-most ReservedBitSet = omega arith
@@ -106,4 +111,3 @@ number-most GrantedOverCapacity = omega arith
 number-most BrokenRecord = omega arith
 number-most TooLong = omega arith
 number-most InvalidState = omega arith
-number-most ThirdContainer = omega arith

@@ -21,7 +21,6 @@ use Rattle.cause.specs.declared.Cause.the-variants.{
   BrokenRecord,
   TooLong,
   InvalidState,
-  ThirdContainer,
 }
 
 abbrev pub causeNumber : Cause → ℕ
@@ -60,5 +59,3 @@ causeNumber BrokenRecord = 17
 causeNumber TooLong = 18
 -- format, direction, configuration or state not valid
 causeNumber InvalidState = 19
--- message would need a third container
-causeNumber ThirdContainer = 20

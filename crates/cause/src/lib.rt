@@ -23,7 +23,6 @@ pub enum Cause {
     BrokenRecord,
     TooLong,
     InvalidState,
-    ThirdContainer,
 }
 
 // What a list of checks finds: nothing, or the first cause with its place.
@@ -56,6 +55,5 @@ pub fn number_cause(cause: Cause) -> u32
         Cause::BrokenRecord => 17,
         Cause::TooLong => 18,
         Cause::InvalidState => 19,
-        Cause::ThirdContainer => 20,
     }
 }

@@ -13,6 +13,7 @@ use Rattle.reader.specs.Reading.{carried, records}
 use Rattle.reader.specs.declared.reader.Reader.{Reader}
 use Rattle.reader.proofs.ProgressLaws.{endings-of}
 use Rattle.reader.proofs.ReadLaws.{read-exactly}
+use Rattle.reader.proofs.NextEnds.{carried-ends}
 use Rattle.writer.specs.Plan.{plan, cursorOf}
 use Rattle.writer.specs.Laying.{filled, owesAfter, usedOf}
 use Rattle.writer.specs.Filling.{tailOf, fillFault, filling, fillBytes}
@@ -52,6 +53,7 @@ pub demand2 : Demand2
 demand2 = record {
   read-exactly = read-exactly;
   in-order = in-order;
+  carried-ends = carried-ends;
   one-way = one-way;
   returned = list-returned;
   so-far = out-so-far;

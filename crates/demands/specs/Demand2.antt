@@ -13,7 +13,7 @@ use Rattle.message.specs.Heads.{isMessage}
 use Rattle.message.specs.Kinds.{PaysAsCharged}
 use Rattle.record.specs.Records.{recordsOf, AllMessages}
 use Rattle.reader.specs.Cells.{Cell}
-use Rattle.reader.specs.Keeps.{Keeps, endedTo}
+use Rattle.reader.specs.Keeps.{Keeps, endedTo, CarryEnds}
 use Rattle.reader.specs.Reading.{readerOk, carried, records, reading}
 use Rattle.reader.specs.declared.reader.Reader.{Reader}
 use Rattle.reader.specs.declared.reader.Answer.the-variants.{Done}
@@ -45,6 +45,10 @@ pub record Demand2 : Type 0 where
       → (reading s c room .answer ≡ Done (length (records s c)) (headerGrant (formatOf (s .format)) c)) ↔ Keeps (formatOf (s .format)) (carried s) c
   -- "and its messages come out in order of completion"
   pub in-order : (s : Reader) (c : List ℕ) → records s c ≡ recordsOf (endedTo (formatOf (s .format)) c (carried s) 12)
+  -- document 02's K11: no message lies in three containers, for a carried one ends in the next, whatever that holds and whether it is
+  -- accepted or not
+  pub carried-ends : (s : Reader) (c : List ℕ) → readerOk s ≡ true → length c ≡ 256 → 0 < length (carried s)
+      → CarryEnds (formatOf (s .format)) c (carried s)
   -- "The writer fills each container in the one way the paper fixes."
   pub one-way : (w : Writer) (l : List ℕ) (n : Grant) (c : List ℕ) (u : ℕ) → filling w l n (length c) .answer ≡ Filled u → Laid w l n c u
   -- "Once a writer started fresh has used up a list and owes no tail, reading its containers in order from a fresh state gives the same

@@ -63,7 +63,7 @@ carried-next r c =
 module _ (r : Reader) (c : List ℕ) (v : readerOk r ≡ true) (n : length c ≡ 256) (h : Pass (stateChecks r c)) where
   granules : Pass (granuleChecks (formatOf (r .format)) 0 (cells (formatOf (r .format)) c 12 0 (carried r)))
   unfolding stateChecks
-  granules = granules-pass (formatOf (r .format)) (carried r) c (cells (formatOf (r .format)) c 12 0 (carried r)) h
+  granules = granules-pass (formatOf (r .format)) c (cells (formatOf (r .format)) c 12 0 (carried r)) h
 
   -- what is carried in and what starts pays what ends and what is carried on
   pub paid-kept : (p : ℕ)

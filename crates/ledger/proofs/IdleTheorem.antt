@@ -45,7 +45,7 @@ blank = replicate 256 0
 abbrev noGrant : Grant
 noGrant = grantOf 0 0 0 0 0
 
-blank-sound : (f : ℕ) → f < 2 → firstFault (containerChecks (formatOf f) [] blank (cells (formatOf f) blank 12 0 [])) ≡ Sound
+blank-sound : (f : ℕ) → f < 2 → firstFault (containerChecks (formatOf f) blank (cells (formatOf f) blank 12 0 [])) ≡ Sound
 unfolding containerChecks granuleChecks groupChecks cells
 blank-sound zero h = refl
 blank-sound (suc zero) h = refl

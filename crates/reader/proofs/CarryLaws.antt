@@ -27,7 +27,7 @@ use Rattle.record.proofs.NumberLaws.{number-small}
 use Rattle.record.proofs.RecordLaws.{records-append}
 use Rattle.record.specs.Records.{recordsOf}
 use Rattle.reader.specs.Cells.{Cell, owed, cellAt, message, whole, after, ended, cells, carryAfter, endings}
-use Rattle.reader.specs.Checking.{cellChecks, granuleChecks, groupChecks, lastChecks, containerChecks}
+use Rattle.reader.specs.Checking.{cellChecks, granuleChecks, groupChecks, activationChecks, containerChecks}
 use Rattle.reader.specs.Keeps.{progress, cellOf, endedTo, KeepsGranule}
 use Rattle.reader.specs.Reading.{carryOk, carried, readerOk, readerWith, stateChecks, judgeChecks, nextReader}
 use Rattle.reader.specs.declared.reader.Reader.{Reader}
@@ -118,7 +118,7 @@ valid-ok m v = ⊎-elim none half v
       omega (arith, h .begun .granules, h .not-all, size-most m),
     )
 
-ok-valid : (m : List ℕ) → carryOk m ≡ true → Valid m
+pub ok-valid : (m : List ℕ) → carryOk m ≡ true → Valid m
 ok-valid m e = ⊎-elim (λ (z : eqb (length m) 0 ≡ true). inl (length-zero m (eqb-true (length m) 0 z))) some (cases (eqb (length m) 0))
   where
     some : eqb (length m) 0 ≡ false → Valid m
@@ -134,7 +134,7 @@ ok-valid m e = ⊎-elim (λ (z : eqb (length m) 0 ≡ true). inl (length-zero m 
         })
 
 -- one granule more
-granules-more : (m b : List ℕ) → Granules m → length b ≡ 20 → Granules (m ++ b)
+pub granules-more : (m b : List ℕ) → Granules m → length b ≡ 20 → Granules (m ++ b)
 granules-more m b h n =
     let l : length (m ++ b) ≡ length m + 20 = length-append m b ∙ ap (λ (k : ℕ). length m + k) n in
     let q = h .granules in
@@ -246,9 +246,9 @@ carry-valid f c m n h p = valid-ok (carryAfter (formatOf f) 0 (cells (formatOf f
 
 -- ---- a reader
 -- the granules of a container that passes
-pub granules-pass : (fm : Format) (m c : List ℕ) (es : List Cell) → Pass (containerChecks fm m c es) → Pass (granuleChecks fm 0 es)
+pub granules-pass : (fm : Format) (c : List ℕ) (es : List Cell) → Pass (containerChecks fm c es) → Pass (granuleChecks fm 0 es)
 unfolding containerChecks
-granules-pass fm m c es p = pass-front (granuleChecks fm 0 es) (groupChecks 4 0 es ++ lastChecks fm m c es) (p .1 .1)
+granules-pass fm c es p = pass-front (granuleChecks fm 0 es) (groupChecks 4 0 es ++ activationChecks fm c es) (p .1 .1)
 
 -- a valid reader, test by test
 pub record ValidReader (s : Reader) : Type 0 where
@@ -286,5 +286,5 @@ next-valid s c e =
     let p = sound-pass (judgeChecks s c) e in
     let r = reader-ok s (p .0) in
     let es = cells (formatOf (s .format)) c 12 0 (carried s) in
-    let v = carry-valid (s .format) c (carried s) (eqb-true (length c) 256 (p .1 .0)) (r .carry) (granules-pass (formatOf (s .format)) (carried s) c es (p .1 .1)) in
+    let v = carry-valid (s .format) c (carried s) (eqb-true (length c) 256 (p .1 .0)) (r .carry) (granules-pass (formatOf (s .format)) c es (p .1 .1)) in
     with-valid (s .format) (carryAfter (formatOf (s .format)) 0 es (carried s)) (r .format) (v .0) (v .1)

@@ -1,24 +1,23 @@
 -- The verdict on a container, by those on its header, its granules, and what their marks say. Assumes nothing.
-use Prim.Native.Nat.{ℕ, zero, suc, _+_, _*_, _≤_, _<_}
+use Prim.Native.Nat.{ℕ, zero, suc, _+_}
 use mathlib.Core.Path.{_≡_, refl, sym, ap, _∙_}
 use mathlib.Core.Bool.{Bool, true, false, _||_, not}
 use mathlib.Core.List.{List, [], _∷_, _++_}
 use native.Mathlib.Omega.{arith}
 use lib.ListN.{length}
-use lib.Dec.{eqb, leb}
-use borrow.Author.Tests.{le-leb, lt-leb, not-true, not-false}
+use lib.Dec.{eqb}
+use borrow.Author.Tests.{not-true, not-false}
 use Rattle.cause.specs.Checks.{check, firstFault, orElse}
 use Rattle.cause.specs.declared.Cause.{Cause}
-use Rattle.cause.specs.declared.Cause.the-variants.{GrantBesideActivation, ThirdContainer}
+use Rattle.cause.specs.declared.Cause.the-variants.{GrantBesideActivation}
 use Rattle.cause.specs.declared.Verdict.{Verdict}
 use Rattle.cause.specs.declared.Verdict.the-variants.{Sound, Faulty}
 use Rattle.cause.proofs.CheckLaws.{first-append}
-use Rattle.container.specs.Layout.{Format, formatOf, wide}
-use Rattle.container.specs.Lawful.{howMany}
+use Rattle.container.specs.Layout.{Format, formatOf}
 use Rattle.container.specs.Grants.{headerGrant, noCounts}
 use Rattle.container.specs.declared.grant.Grant.{Grant}
-use Rattle.reader.specs.Cells.{Cell, owed, cellAt, after, cells}
-use Rattle.reader.specs.Checking.{headerChecks, granuleChecks, groupChecks, lastChecks, endsHere, containerChecks}
+use Rattle.reader.specs.Cells.{Cell, cellAt, after, cells}
+use Rattle.reader.specs.Checking.{headerChecks, granuleChecks, groupChecks, activationChecks, containerChecks}
 use Rattle.reader.specs.Tracking.{marksOf, markChecks, activationMarks, behindGranules, Scanned, Looked}
 use Rattle.reader.specs.declared.track.Track.{Track}
 use Rattle.reader.specs.declared.scan.Scan.{Scan}
@@ -36,29 +35,25 @@ without-counts false true e = refl
 without-counts false false e = e
 
 -- the verdict behind the granules, with the groups' verdict
-module _ (fm : Format) (m : List ℕ) (grant : Grant) (l : List ℕ) {groups : Verdict} (eg : groups ≡ firstFault (markChecks 4 0 l)) where
-  joined : firstFault (behindGranules fm m grant l) ≡ orElse groups (firstFault (check (eqb (activationMarks 12 0 l) 0 || noCounts grant) GrantBesideActivation 0 ∷ check (endsHere fm m) ThirdContainer 0 ∷ []))
-  joined = rw eg (first-append (markChecks 4 0 l) (check (eqb (activationMarks 12 0 l) 0 || noCounts grant) GrantBesideActivation 0 ∷ check (endsHere fm m) ThirdContainer 0 ∷ []))
+module _ (grant : Grant) (l : List ℕ) {groups : Verdict} (eg : groups ≡ firstFault (markChecks 4 0 l)) where
+  abbrev calmBy : Bool
+  calmBy = eqb (activationMarks 12 0 l) 0 || noCounts grant
 
-  pub groups-fail : {k : Cause} {p : ℕ} → groups ≡ Faulty k p → groups ≡ firstFault (behindGranules fm m grant l)
+  joined : firstFault (behindGranules grant l) ≡ orElse groups (firstFault (check calmBy GrantBesideActivation 0 ∷ []))
+  joined = rw eg (first-append (markChecks 4 0 l) (check calmBy GrantBesideActivation 0 ∷ []))
+
+  pub groups-fail : {k : Cause} {p : ℕ} → groups ≡ Faulty k p → groups ≡ firstFault (behindGranules grant l)
   groups-fail e = rw (joined, e)
 
-  module _ (s : groups ≡ Sound) {calm : Bool} (ec : calm ≡ (eqb (activationMarks 12 0 l) 0 || noCounts grant)) where
-    left : firstFault (behindGranules fm m grant l) ≡ firstFault (check calm GrantBesideActivation 0 ∷ check (endsHere fm m) ThirdContainer 0 ∷ [])
+  module _ (s : groups ≡ Sound) {calm : Bool} (ec : calm ≡ calmBy) where
+    left : firstFault (behindGranules grant l) ≡ firstFault (check calm GrantBesideActivation 0 ∷ [])
     left = joined ∙ rw (s, ec)
 
-    pub beside : not calm ≡ true → Faulty GrantBesideActivation 0 ≡ firstFault (behindGranules fm m grant l)
+    pub beside : not calm ≡ true → Faulty GrantBesideActivation 0 ≡ firstFault (behindGranules grant l)
     beside q = rw (left, not-true calm q)
 
-    module _ (q : not calm ≡ false) {held owes : ℕ} (eh : held ≡ 20 * howMany 12 (wide fm)) (eo : owes ≡ owed m) where
-      fits : endsHere fm m ≡ leb owes held
-      fits = rw (eo, eh)
-
-      pub too-long : held < owes → Faulty ThirdContainer 0 ≡ firstFault (behindGranules fm m grant l)
-      too-long h = rw (left, not-false calm q, fits, lt-leb owes held h)
-
-      pub behind-fine : owes ≤ held → Sound ≡ firstFault (behindGranules fm m grant l)
-      behind-fine h = rw (left, not-false calm q, fits, le-leb owes held h)
+    pub behind-fine : not calm ≡ false → Sound ≡ firstFault (behindGranules grant l)
+    behind-fine q = rw (left, not-false calm q)
 
 -- a container whose cells are judged
 length-cells : (fm : Format) (c : List ℕ) (k g : ℕ) (m : List ℕ) → length (cells fm c k g m) ≡ k
@@ -67,21 +62,21 @@ length-cells fm c zero g m = refl
 length-cells fm c (suc k) g m = ap suc (length-cells fm c k (g + 1) (after fm g (cellAt fm g c m) m))
 
 -- the checks behind the granules, by cells and by their marks
-behind-same : (fm : Format) (m c : List ℕ) (es : List Cell) → length es ≡ 12 → firstFault (behindGranules fm m (headerGrant fm c) (marksOf es)) ≡ firstFault (groupChecks 4 0 es ++ lastChecks fm m c es)
-behind-same fm m c es n =
-    joined fm m (headerGrant fm c) (marksOf es) refl
+behind-same : (fm : Format) (c : List ℕ) (es : List Cell) → length es ≡ 12 → firstFault (behindGranules (headerGrant fm c) (marksOf es)) ≡ firstFault (groupChecks 4 0 es ++ activationChecks fm c es)
+behind-same fm c es n =
+    joined (headerGrant fm c) (marksOf es) refl
     ∙ rw (groups-of es n, activations-of es n)
-    (sym (first-append (groupChecks 4 0 es) (lastChecks fm m c es)))
+    (sym (first-append (groupChecks 4 0 es) (activationChecks fm c es)))
 
 module _ (f : ℕ) (c m : List ℕ) {header : Verdict} (eh : header ≡ firstFault (headerChecks (formatOf f) c)) where
   abbrev es : List Cell
   es = cells (formatOf f) c 12 0 m
 
-  parts-joined : firstFault (containerChecks (formatOf f) m c es) ≡ orElse header (orElse (firstFault (granuleChecks (formatOf f) 0 es)) (firstFault (groupChecks 4 0 es ++ lastChecks (formatOf f) m c es)))
+  parts-joined : firstFault (containerChecks (formatOf f) c es) ≡ orElse header (orElse (firstFault (granuleChecks (formatOf f) 0 es)) (firstFault (groupChecks 4 0 es ++ activationChecks (formatOf f) c es)))
   unfolding containerChecks
   parts-joined =
-      first-append (headerChecks (formatOf f) c) (granuleChecks (formatOf f) 0 es ++ (groupChecks 4 0 es ++ lastChecks (formatOf f) m c es))
-      ∙ rw (eh, first-append (granuleChecks (formatOf f) 0 es) (groupChecks 4 0 es ++ lastChecks (formatOf f) m c es))
+      first-append (headerChecks (formatOf f) c) (granuleChecks (formatOf f) 0 es ++ (groupChecks 4 0 es ++ activationChecks (formatOf f) c es))
+      ∙ rw (eh, first-append (granuleChecks (formatOf f) 0 es) (groupChecks 4 0 es ++ activationChecks (formatOf f) c es))
 
   pub header-fails : {k : Cause} {p : ℕ} → header ≡ Faulty k p → {marks : List ℕ} {track : Track} → Looked f c m (record { verdict = header; marks = marks; track = track })
   header-fails {k} {p} e = record { verdict = rw (parts-joined, e); track = λ s. absurd (never s) }
@@ -93,11 +88,11 @@ module _ (f : ℕ) (c m : List ℕ) {header : Verdict} (eh : header ≡ firstFau
     pub granules-fail : {k : Cause} {p : ℕ} → r .verdict ≡ Faulty k p → Looked f c m r
     granules-fail e = record { verdict = rw (parts-joined, s, ← scan .verdict, e); track = scan .track }
 
-    pub marks-judged : r .verdict ≡ Sound → {grant : Grant} → grant ≡ headerGrant (formatOf f) c → {v : Verdict} → v ≡ firstFault (behindGranules (formatOf f) m grant (r .marks)) → {marks : List ℕ} → Looked f c m (record { verdict = v; marks = marks; track = r .track })
+    pub marks-judged : r .verdict ≡ Sound → {grant : Grant} → grant ≡ headerGrant (formatOf f) c → {v : Verdict} → v ≡ firstFault (behindGranules grant (r .marks)) → {marks : List ℕ} → Looked f c m (record { verdict = v; marks = marks; track = r .track })
     marks-judged e {grant} eg {v} ev = record {
       verdict =
-          ev ∙ (λ i. firstFault (behindGranules (formatOf f) m (eg i) (scan .marks e i)))
-          ∙ behind-same (formatOf f) m c es (length-cells (formatOf f) c 12 0 m)
+          ev ∙ (λ i. firstFault (behindGranules (eg i) (scan .marks e i)))
+          ∙ behind-same (formatOf f) c es (length-cells (formatOf f) c 12 0 m)
           ∙ sym (parts-joined ∙ rw (s, ← scan .verdict, e));
       track = λ _. scan .track e;
     }

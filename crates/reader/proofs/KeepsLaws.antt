@@ -14,14 +14,13 @@ use Rattle.lists.proofs.Tests.{cases, T-true, true-T, and-left, and-right, or-c
 use Rattle.lists.proofs.ZeroLaws.{zeros-at, at-zeros}
 use Rattle.cause.specs.Checks.{Pass}
 use Rattle.cause.proofs.CheckLaws.{pass-append, pass-front, pass-back}
-use Rattle.container.specs.Layout.{Format, wide, header}
-use Rattle.container.specs.Lawful.{howMany}
+use Rattle.container.specs.Layout.{Format, header}
 use Rattle.container.specs.Grants.{headerGrant, noCounts, reservedOk}
 use Rattle.container.specs.declared.grant.Grant.{Grant}
 use Rattle.message.specs.Heads.{msgSize, known, wellHeaded, isMisc, activation}
 use Rattle.message.specs.Places.{placed, miscs, responses}
-use Rattle.reader.specs.Cells.{Cell, cells, owed}
-use Rattle.reader.specs.Checking.{used, cellChecks, granuleChecks, populated, noGap, starting, sumOf, oneMisc, fourResponses, groupChecks, activations, quiet, lastChecks, containerChecks}
+use Rattle.reader.specs.Cells.{Cell, cells}
+use Rattle.reader.specs.Checking.{used, cellChecks, granuleChecks, populated, noGap, starting, sumOf, oneMisc, fourResponses, groupChecks, activations, quiet, activationChecks, containerChecks}
 use Rattle.reader.specs.Keeps.{progress, cellOf, KeepsGranule, KeepsGroup, NoCounts, Keeps}
 use Rattle.reader.proofs.ProgressLaws.{listFrom, cells-of}
 
@@ -271,31 +270,30 @@ module _ (fm : Format) (m c : List ℕ) where
   abbrev es : List Cell
   es = listFrom cell 12 0
 
-  keeps-of : Pass (containerChecks fm m c es) → Keeps fm m c
+  keeps-of : Pass (containerChecks fm c es) → Keeps fm m c
   unfolding containerChecks
   keeps-of p =
       let q = p .1 .1 in
-      let granules = granules-to fm cell 12 0 (pass-front (granuleChecks fm 0 es) (groupChecks 4 0 es ++ lastChecks fm m c es) q) in
-      let r = pass-back (granuleChecks fm 0 es) (groupChecks 4 0 es ++ lastChecks fm m c es) q in
-      let last = pass-back (groupChecks 4 0 es) (lastChecks fm m c es) r in
+      let granules = granules-to fm cell 12 0 (pass-front (granuleChecks fm 0 es) (groupChecks 4 0 es ++ activationChecks fm c es) q) in
+      let r = pass-back (granuleChecks fm 0 es) (groupChecks 4 0 es ++ activationChecks fm c es) q in
+      let last = pass-back (groupChecks 4 0 es) (activationChecks fm c es) r in
       record {
         reserved = reserved-to (p .0);
         shared = plane-exactly (headerGrant fm c .shc) (headerGrant fm c .rp) .0 (p .1 .0);
         granules = λ g b. granules g (omega arith) (omega arith);
-        groups = groups-to cell (pass-front (groupChecks 4 0 es) (lastChecks fm m c es) r);
+        groups = groups-to cell (pass-front (groupChecks 4 0 es) (activationChecks fm c es) r);
         quiet = quiet-to (last .0);
-        ends = leb-true (owed m) (20 * howMany 12 (wide fm)) (last .1 .0);
       }
 
-  of-keeps : Keeps fm m c → Pass (containerChecks fm m c es)
+  of-keeps : Keeps fm m c → Pass (containerChecks fm c es)
   unfolding containerChecks
   of-keeps k = (
     reserved-from (k .reserved),
     (
       plane-exactly (headerGrant fm c .shc) (headerGrant fm c .rp) .1 (k .shared),
-      pass-append (granuleChecks fm 0 es) (groupChecks 4 0 es ++ lastChecks fm m c es) (granules-from fm cell 12 0 (λ g a b. k .granules g (omega arith)))
-          (pass-append (groupChecks 4 0 es) (lastChecks fm m c es) (groups-from cell (k .groups))
-          (quiet-from (k .quiet), (le-leb (owed m) (20 * howMany 12 (wide fm)) (k .ends), tt))),
+      pass-append (granuleChecks fm 0 es) (groupChecks 4 0 es ++ activationChecks fm c es) (granules-from fm cell 12 0 (λ g a b. k .granules g (omega arith)))
+          (pass-append (groupChecks 4 0 es) (activationChecks fm c es) (groups-from cell (k .groups))
+          (quiet-from (k .quiet), tt)),
     ),
   )
 
@@ -303,12 +301,12 @@ module _ (fm : Format) (m c : List ℕ) where
   unfolding progress
   cells-listed = cells-of fm c m 12 0
 
-pub passes-keeps : (fm : Format) (m c : List ℕ) → Pass (containerChecks fm m c (cells fm c 12 0 m)) → Keeps fm m c
-passes-keeps fm m c p = keeps-of fm m c (subst (λ (l : List Cell). Pass (containerChecks fm m c l)) (cells-listed fm m c) p)
+pub passes-keeps : (fm : Format) (m c : List ℕ) → Pass (containerChecks fm c (cells fm c 12 0 m)) → Keeps fm m c
+passes-keeps fm m c p = keeps-of fm m c (subst (λ (l : List Cell). Pass (containerChecks fm c l)) (cells-listed fm m c) p)
 
-pub keeps-passes : (fm : Format) (m c : List ℕ) → Keeps fm m c → Pass (containerChecks fm m c (cells fm c 12 0 m))
-keeps-passes fm m c k = subst (λ (l : List Cell). Pass (containerChecks fm m c l)) (sym (cells-listed fm m c)) (of-keeps fm m c k)
+pub keeps-passes : (fm : Format) (m c : List ℕ) → Keeps fm m c → Pass (containerChecks fm c (cells fm c 12 0 m))
+keeps-passes fm m c k = subst (λ (l : List Cell). Pass (containerChecks fm c l)) (sym (cells-listed fm m c)) (of-keeps fm m c k)
 
 -- a container passes exactly where it keeps the rules
-pub container-exactly : (fm : Format) (m c : List ℕ) → Pass (containerChecks fm m c (cells fm c 12 0 m)) ↔ Keeps fm m c
+pub container-exactly : (fm : Format) (m c : List ℕ) → Pass (containerChecks fm c (cells fm c 12 0 m)) ↔ Keeps fm m c
 container-exactly fm m c = (passes-keeps fm m c, keeps-passes fm m c)

@@ -19,3 +19,4 @@ pub mod RecordsLaws
 pub mod EndingCases
 pub mod WriteLaws
 pub mod NextLaws
+pub mod NextEnds

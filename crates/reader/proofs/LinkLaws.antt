@@ -67,9 +67,9 @@ module _ (fm : Format) (w : Lawful fm) (c d : List ℕ) (nc : length c ≡ 256) 
       ap (λ (e : Cell). e ∷ cells fm c k (g + 1) (after fm g e m)) (cell-same g m (omega arith))
       ∙ ap (λ (es : List Cell). cellAt fm g d m ∷ es) (cells-same k (g + 1) (after fm g (cellAt fm g d m) m) (omega arith))
 
-  container-same : (m : List ℕ) (es : List Cell) → containerChecks fm m c es ≡ containerChecks fm m d es
+  container-same : (es : List Cell) → containerChecks fm c es ≡ containerChecks fm d es
   unfolding containerChecks
-  container-same m es =
+  container-same es =
       rw (header-same 1 (omega arith), header-same 2 (omega arith), header-same 3 (omega arith), header-same 4 (omega arith), header-same 5 (omega arith), header-same 6 (omega arith), header-same 7 (omega arith), header-same 8 (omega arith), header-same 9 (omega arith))
 
 module _ (s : Reader) (c d : List ℕ) (nc : length c ≡ 256) (nd : length d ≡ 256) (same : (i : ℕ) → i < 256 → formatOf (s .format) .link i ≡ false → getD c i 0 ≡ getD d i 0) where
@@ -81,7 +81,7 @@ module _ (s : Reader) (c d : List ℕ) (nc : length c ≡ 256) (nd : length d �
 
   checks-same : stateChecks s c ≡ stateChecks s d
   unfolding stateChecks
-  checks-same = container-same fm (lawful-of (s .format)) c d nc nd same (carried s) (cells fm c 12 0 (carried s)) ∙ ap (containerChecks fm (carried s) d) scan-same
+  checks-same = container-same fm (lawful-of (s .format)) c d nc nd same (cells fm c 12 0 (carried s)) ∙ ap (containerChecks fm d) scan-same
 
   judged-same : judgeChecks s c ≡ judgeChecks s d
   unfolding judgeChecks

@@ -112,7 +112,7 @@ module _ (s : Reader) (c : List ℕ) (r : Scan) (looked : Looked (s .format) c (
   pub looked-pass : r .verdict ≡ Sound → Pass (granuleChecks (formatOf (s .format)) 0 (cells (formatOf (s .format)) c 12 0 (carried s)))
   unfolding stateChecks
   looked-pass e =
-      granules-pass (formatOf (s .format)) (carried s) c (cells (formatOf (s .format)) c 12 0 (carried s))
+      granules-pass (formatOf (s .format)) c (cells (formatOf (s .format)) c 12 0 (carried s))
       (sound-pass (stateChecks s c) (sym looked-verdict ∙ e))
 
 -- the records of a reader's container, with its carry as the code takes it

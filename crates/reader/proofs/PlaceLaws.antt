@@ -11,7 +11,7 @@ use Rattle.cause.specs.declared.Cause.{Cause}
 use Rattle.cause.specs.declared.Verdict.the-variants.{Faulty}
 use Rattle.container.specs.Layout.{Format, formatOf}
 use Rattle.reader.specs.Cells.{Cell, cells, cellAt, after}
-use Rattle.reader.specs.Checking.{granuleChecks, groupChecks, lastChecks, containerChecks}
+use Rattle.reader.specs.Checking.{granuleChecks, groupChecks, activationChecks, containerChecks}
 use Rattle.reader.specs.Reading.{carried, stateChecks, readChecks, judgeChecks, reading, judging}
 use Rattle.reader.specs.declared.reader.Reader.{Reader}
 use Rattle.reader.specs.declared.reader.Answer.the-variants as answer
@@ -58,8 +58,8 @@ state-below s c =
       z,
       (
         z,
-        below-append 12 (granuleChecks fm 0 es) (groupChecks 4 0 es ++ lastChecks fm (carried s) c es) (granules-below fm c 12 0 (carried s) (omega arith))
-            (below-append 12 (groupChecks 4 0 es) (lastChecks fm (carried s) c es) (groups-below 4 0 es (omega arith)) (z, (z, tt))),
+        below-append 12 (granuleChecks fm 0 es) (groupChecks 4 0 es ++ activationChecks fm c es) (granules-below fm c 12 0 (carried s) (omega arith))
+            (below-append 12 (groupChecks 4 0 es) (activationChecks fm c es) (groups-below 4 0 es (omega arith)) (z, tt)),
       ),
     )
 

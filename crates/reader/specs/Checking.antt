@@ -1,5 +1,5 @@
 -- The checks of a container (document 01, "Placement" and "Causes and places"), in the order of refusal.
-use Prim.Native.Nat.{ℕ, zero, suc, _+_, _*_}
+use Prim.Native.Nat.{ℕ, zero, suc, _+_}
 use mathlib.Core.Bool.{Bool, true, _&&_, _||_, not}
 use mathlib.Core.List.{List, [], _∷_, _++_}
 use lib.ListN.{take, drop}
@@ -7,13 +7,12 @@ use lib.Dec.{eqb, leb}
 use Rattle.lists.specs.Pick.{pick}
 use Rattle.lists.specs.Parts.{zeros}
 use Rattle.cause.specs.Checks.{Check, check}
-use Rattle.cause.specs.declared.Cause.the-variants.{ReservedBitSet, HeaderGrantForm, StartInsideMessage, UnknownMessage, PlaceNotAllowed, HeadWrong, UnusedByteNotZero, GapInGroup, SecondMisc, TooManyResponses, GrantBesideActivation, ThirdContainer}
-use Rattle.container.specs.Layout.{Format, wide}
-use Rattle.container.specs.Lawful.{howMany}
+use Rattle.cause.specs.declared.Cause.the-variants.{ReservedBitSet, HeaderGrantForm, StartInsideMessage, UnknownMessage, PlaceNotAllowed, HeadWrong, UnusedByteNotZero, GapInGroup, SecondMisc, TooManyResponses, GrantBesideActivation}
+use Rattle.container.specs.Layout.{Format}
 use Rattle.container.specs.Grants.{headerGrant, planeAllowed, noCounts, reservedOk}
 use Rattle.message.specs.Heads.{msgSize, known, wellHeaded, isMisc, activation}
 use Rattle.message.specs.Places.{placed, responses, miscs}
-use Rattle.reader.specs.Cells.{Cell, owed}
+use Rattle.reader.specs.Cells.{Cell}
 
 -- the bytes that a message uses of a cell
 abbrev pub used : Cell → ℕ
@@ -104,14 +103,10 @@ activations m = pick (isMisc m activation) 1 0
 abbrev pub quiet : Format → List ℕ → List Cell → Bool
 quiet fm c es = eqb (sumOf activations es) 0 || noCounts (headerGrant fm c)
 
--- what is owed of a carried message fits in the granules that it may go on in
-abbrev pub endsHere : Format → List ℕ → Bool
-endsHere fm m = leb (owed m) (20 * howMany 12 (wide fm))
+-- 13
+abbrev pub activationChecks : Format → List ℕ → List Cell → List Check
+activationChecks fm c es = check (quiet fm c es) GrantBesideActivation 0 ∷ []
 
--- 13, 20
-abbrev pub lastChecks : Format → List ℕ → List ℕ → List Cell → List Check
-lastChecks fm m c es = check (quiet fm c es) GrantBesideActivation 0 ∷ check (endsHere fm m) ThirdContainer 0 ∷ []
-
--- a container of 256 bytes with m carried in: 3, 4; granules upwards; groups upwards; then 13, 20
-unfoldable pub containerChecks : Format → List ℕ → List ℕ → List Cell → List Check
-containerChecks fm m c es = headerChecks fm c ++ (granuleChecks fm 0 es ++ (groupChecks 4 0 es ++ lastChecks fm m c es))
+-- a container of 256 bytes, as its cells are read: 3, 4; granules upwards; groups upwards; then 13
+unfoldable pub containerChecks : Format → List ℕ → List Cell → List Check
+containerChecks fm c es = headerChecks fm c ++ (granuleChecks fm 0 es ++ (groupChecks 4 0 es ++ activationChecks fm c es))

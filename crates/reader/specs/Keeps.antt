@@ -2,15 +2,14 @@
 use Prim.Native.Nat.{ℕ, zero, suc, _+_, _*_, _≤_, _<_}
 use mathlib.Core.Path.{_≡_}
 use mathlib.Core.Bool.{true}
-use mathlib.Core.List.{List, [], _++_}
-use lib.ListN.{getD}
+use mathlib.Core.List.{List, [], _∷_, _++_}
+use lib.ListN.{length, getD, take}
 use lib.Dec.{T}
-use Rattle.container.specs.Layout.{Format, wide, header}
-use Rattle.container.specs.Lawful.{howMany}
+use Rattle.container.specs.Layout.{Format, header}
 use Rattle.container.specs.Grants.{headerGrant}
 use Rattle.message.specs.Heads.{msgSize, wellHeaded, isMisc, activation}
 use Rattle.message.specs.Places.{placed, miscs, responses}
-use Rattle.reader.specs.Cells.{Cell, cellAt, after, ended, owed}
+use Rattle.reader.specs.Cells.{Cell, cellAt, after, ended}
 use Rattle.reader.specs.Checking.{used, populated, starting}
 
 -- what was read of the message in progress when granule g is reached, with m carried in
@@ -26,6 +25,17 @@ cellOf fm c m g = cellAt fm g c (progress fm c m g)
 unfoldable pub endedTo : Format → List ℕ → List ℕ → ℕ → List (List ℕ)
 endedTo fm c m zero = []
 endedTo fm c m (suc g) = endedTo fm c m g ++ ended (cellOf fm c m g) (progress fm c m g)
+
+-- a message of which p was read ends in container c: when some granule up to G5 is reached it alone has ended, whole, and nothing is in
+-- progress
+pub record CarryEnds (fm : Format) (c p : List ℕ) : Type 0 where
+  pub granule : ℕ
+  pub message : List ℕ
+  pub early : granule ≤ 5
+  pub ends : endedTo fm c p granule ≡ message ∷ []
+  pub begins : take (length p) message ≡ p
+  pub whole : length message ≡ msgSize p
+  pub nothing-left : progress fm c p granule ≡ []
 
 -- a granule: nothing starts where a message goes on; what starts is known, in a place that takes it, with a right head; unused
 -- bytes are zero
@@ -57,5 +67,3 @@ pub record Keeps (fm : Format) (m c : List ℕ) : Type 0 where
   pub groups : (q : ℕ) → q < 4 → KeepsGroup (cellOf fm c m (3 * q)) (cellOf fm c m (3 * q + 1)) (cellOf fm c m (3 * q + 2))
   -- a container in which an Activation starts has four zero counts in its header
   pub quiet : (g : ℕ) → g < 12 → T (cellOf fm c m g .starts) → T (isMisc (cellOf fm c m g .bytes) activation) → NoCounts fm c
-  -- a carried message ends in this container
-  pub ends : owed m ≤ 20 * howMany 12 (wide fm)

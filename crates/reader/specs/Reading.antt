@@ -52,7 +52,7 @@ entryChecks s n = check (readerOk s) InvalidState 0 ∷ check (eqb n 256) Contai
 
 -- the checks of a container from a state
 unfoldable pub stateChecks : Reader → List ℕ → List Check
-stateChecks s c = containerChecks (formatOf (s .format)) (carried s) c (cells (formatOf (s .format)) c 12 0 (carried s))
+stateChecks s c = containerChecks (formatOf (s .format)) c (cells (formatOf (s .format)) c 12 0 (carried s))
 
 -- judging: 19, 1, then the container
 unfoldable pub judgeChecks : Reader → List ℕ → List Check

@@ -9,14 +9,14 @@ use Rattle.lists.specs.Pick.{pick}
 use Rattle.cause.specs.Checks.{Check, check, firstFault}
 use Rattle.cause.specs.declared.Verdict.{Verdict}
 use Rattle.cause.specs.declared.Verdict.the-variants.{Sound, Faulty}
-use Rattle.cause.specs.declared.Cause.the-variants.{GapInGroup, SecondMisc, TooManyResponses, GrantBesideActivation, ThirdContainer}
+use Rattle.cause.specs.declared.Cause.the-variants.{GapInGroup, SecondMisc, TooManyResponses, GrantBesideActivation}
 use Rattle.container.specs.Layout.{Format, formatOf, wide, granule, msgStart, bit}
 use Rattle.container.specs.Grants.{noCounts}
 use Rattle.container.specs.declared.grant.Grant.{Grant}
 use Rattle.message.specs.Heads.{msgSize, miscBy, activation}
 use Rattle.message.specs.Places.{responses, responsesBy, miscs, miscsBy}
 use Rattle.reader.specs.Cells.{Cell, owed, cells}
-use Rattle.reader.specs.Checking.{populated, starting, activations, endsHere, cellChecks, granuleChecks, containerChecks}
+use Rattle.reader.specs.Checking.{populated, starting, activations, cellChecks, granuleChecks, containerChecks}
 use Rattle.reader.specs.declared.track.Track.{Track}
 use Rattle.reader.specs.declared.cell.Finding.{Finding}
 use Rattle.reader.specs.declared.cell.Finding.the-variants.{Fault, Mark}
@@ -107,13 +107,9 @@ unfoldable pub activationMarks : ℕ → ℕ → List ℕ → ℕ
 activationMarks zero i l = 0
 activationMarks (suc k) i l = getD l i 0 / 128 + activationMarks k (i + 1) l
 
--- the checks behind the granules by their marks: groups upwards, then 13, 20
-abbrev pub behindGranules : Format → List ℕ → Grant → List ℕ → List Check
-behindGranules fm m grant l =
-    markChecks 4 0 l
-    ++ (check (eqb (activationMarks 12 0 l) 0 || noCounts grant) GrantBesideActivation 0
-    ∷ check (endsHere fm m) ThirdContainer 0
-    ∷ [])
+-- the checks behind the granules by their marks: groups upwards, then 13
+abbrev pub behindGranules : Grant → List ℕ → List Check
+behindGranules grant l = markChecks 4 0 l ++ (check (eqb (activationMarks 12 0 l) 0 || noCounts grant) GrantBesideActivation 0 ∷ [])
 
 -- the marks of cells
 abbrev pub marksOf : List Cell → List ℕ
@@ -128,7 +124,7 @@ pub record Scanned (f : ℕ) (c m : List ℕ) (r : Scan) : Type 0 where
 
 -- what judging a whole container gives: its first fault; and where there is none, the message in progress
 pub record Looked (f : ℕ) (c m : List ℕ) (r : Scan) : Type 0 where
-  pub verdict : r .verdict ≡ firstFault (containerChecks (formatOf f) m c (cells (formatOf f) c 12 0 m))
+  pub verdict : r .verdict ≡ firstFault (containerChecks (formatOf f) c (cells (formatOf f) c 12 0 m))
   pub track : r .verdict ≡ Sound → r .track ≡ trackAt (formatOf f) c (msgStart (formatOf f) c) (trackOf m) 12
 
 -- what was read of a message in progress is at least a granule

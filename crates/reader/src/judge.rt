@@ -1,11 +1,9 @@
-// A whole container judged: causes 3 to 20.
+// A whole container judged: causes 3 to 13.
 ghost use mathlib.Core.Path.{_≡_};
 ghost use mathlib.Core.Bool.{_||_};
-ghost use Prim.Native.Nat.{_*_};
 ghost use lib.ListN.{length};
 ghost use lib.Dec.{eqb};
-ghost use Rattle.container.specs.Layout.{formatOf, msgStart, wide};
-ghost use Rattle.container.specs.Lawful.{howMany};
+ghost use Rattle.container.specs.Layout.{formatOf, msgStart};
 ghost use Rattle.container.specs.Grants.{headerGrant, noCounts};
 ghost use Rattle.cause.specs.Checks.{firstFault};
 ghost use Rattle.reader.specs.Checking.{headerChecks};
@@ -21,16 +19,6 @@ use container::Grant;
 use container::allows_plane;
 use container::has_counts;
 use container::keeps_reserved;
-
-// The bytes of a carried message that a container of this format can hold.
-fn hold_carry(format: u32) -> usize
-    ensures { λ r. ⌜ r ≡ 20 * howMany 12 (wide (formatOf format)) ⌝ }
-{
-    if format == 0 {
-        return 240;
-    }
-    200
-}
 
 // The header: causes 3 and 4.
 fn judge_header(format: u32, container: &[u8], grant: Grant) -> Verdict
@@ -56,9 +44,9 @@ fn is_quiet(grant: Grant, marks: [u8; 12]) -> bool
     true
 }
 
-// The groups, the header beside an Activation, and a carried message, by the marks of the granules: causes 10 to 20.
-fn judge_marks(format: u32, grant: Grant, marks: [u8; 12], carry: &[u8]) -> Verdict
-    ensures { λ r. ⌜ r ≡ firstFault (behindGranules (formatOf format) (now (carry .entry)) grant marks) ⌝ }
+// The groups and the header beside an Activation, by the marks of the granules: causes 10 to 13.
+fn judge_marks(grant: Grant, marks: [u8; 12]) -> Verdict
+    ensures { λ r. ⌜ r ≡ firstFault (behindGranules grant marks) ⌝ }
 {
     let groups = judge_groups(marks);
     if let Verdict::Faulty(_, _) = groups {
@@ -66,10 +54,6 @@ fn judge_marks(format: u32, grant: Grant, marks: [u8; 12], carry: &[u8]) -> Verd
     }
     if !is_quiet(grant, marks) {
         return Verdict::Faulty(Cause::GrantBesideActivation, 0);
-    }
-    let track = Track::carried(carry);
-    if hold_carry(format) < track.owed {
-        return Verdict::Faulty(Cause::ThirdContainer, 0);
     }
     Verdict::Sound
 }
@@ -104,7 +88,7 @@ pub fn judge_container(
     let marks = scan.marks;
     let track = scan.track;
     Scan {
-        verdict: judge_marks(format, grant, marks, carry),
+        verdict: judge_marks(grant, marks),
         marks: marks,
         track: track,
     }

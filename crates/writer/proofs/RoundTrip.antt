@@ -25,7 +25,7 @@ use Rattle.message.proofs.HeadLaws.{headed-append}
 use Rattle.record.specs.Records.{recordsOf, listFault}
 use Rattle.record.proofs.RecordLaws.{records-append, list-exactly}
 use Rattle.reader.specs.Cells.{Cell, owed, after, cells, carryAfter, endings}
-use Rattle.reader.specs.Checking.{starting, activations, sumOf, cellChecks, granuleChecks, groupChecks, lastChecks, quiet, endsHere, containerChecks}
+use Rattle.reader.specs.Checking.{starting, activations, sumOf, cellChecks, granuleChecks, groupChecks, activationChecks, quiet, containerChecks}
 use Rattle.reader.specs.Reading.{carryOk, carried, readerWith, readChecks, stateChecks, nextReader, records, reading}
 use Rattle.reader.specs.declared.reader.Reader.{Reader}
 use Rattle.reader.specs.declared.reader.Step.{Step}
@@ -103,17 +103,6 @@ link-most m t idle = (omega arith, omega arith)
 link-most m t (busy h a b pm pt) =
     let k : length m + length t ≤ 120 = rw (length-append m t) at (message-most (m ++ t) h) in (omega arith, omega arith)
 
-owed-most : (m t : List ℕ) → Link m t → owed m ≤ 100
-owed-most m t idle = omega arith
-owed-most m t (busy h a b pm pt) = rw (owed-m m t h a b pm pt) (link-most m t (busy h a b pm pt) .1)
-
--- five granules take what is owed
-room-enough : (f : ℕ) → 100 ≤ 20 * howMany 12 (wide (formatOf f))
-room-enough f = ⊎-elim (λ (e : eqb f 0 ≡ true). rw e (omega arith)) (λ (e : eqb f 0 ≡ false). rw e (omega arith)) (cases (eqb f 0))
-
-ends-here : (f : ℕ) (m t : List ℕ) → Link m t → endsHere (formatOf f) m ≡ true
-ends-here f m t link = le-leb (owed m) (20 * howMany 12 (wide (formatOf f))) (omega (arith, owed-most m t link, room-enough f))
-
 link-carry : (m t : List ℕ) → Link m t → carryOk m ≡ true
 link-carry m t idle = refl
 link-carry m t (busy h a b pm pt) =
@@ -160,14 +149,14 @@ module _ (f : ℕ) (n : Grant) (low : n .rp < 8) (allowed : planeAllowed n ≡ t
   unfolding filled
   box-grant = made.box-grant fm (lawful-of f) n laid twelve sized low
 
-  box-passes : Pass (containerChecks fm m box laid)
+  box-passes : Pass (containerChecks fm box laid)
   unfolding containerChecks filled
   box-passes =
       let groups = groups-pass fm n l (lawful-of f .narrow-last) 4 0 0 (cursorOf t) (omega arith) refl refl (packed-none t) in
-      let behind = pass-append (groupChecks 4 0 laid) (lastChecks fm m box laid) groups (is-quiet, (ends-here f m t link, tt)) in
+      let behind = pass-append (groupChecks 4 0 laid) (activationChecks fm box laid) groups (is-quiet, tt) in
       let granules = written-passes fm laid 0 m (ran .written) in
       let allowed-there = subst (λ (k : Grant). planeAllowed k ≡ true) (sym box-grant) allowed in
-      let body = pass-append (granuleChecks fm 0 laid) (groupChecks 4 0 laid ++ lastChecks fm m box laid) granules behind in
+      let body = pass-append (granuleChecks fm 0 laid) (groupChecks 4 0 laid ++ activationChecks fm box laid) granules behind in
       (made.box-reserved fm (lawful-of f) n laid twelve sized low, (allowed-there, body))
     where
       is-quiet : quiet fm box laid ≡ true

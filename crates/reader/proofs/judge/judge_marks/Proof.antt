@@ -1,8 +1,5 @@
 -- `reader::judge::judge_marks` meets its contract.
-use Rattle.container.specs.Layout.{formatOf}
-use mathlib.Core.Path.{ap}
-use Rattle.reader.specs.declared.track.Track.{Track}
-use Rattle.reader.proofs.JudgeLaws.{groups-fail, beside, too-long, behind-fine}
+use Rattle.reader.proofs.JudgeLaws.{groups-fail, beside, behind-fine}
 use borrow.Author.Needs.{needs}
 use Rattle.reader.proofs.judge.judge_marks.Statement.{statement}
 use Rattle.reader.proofs.judge.judge_marks.Tie as tie
@@ -16,8 +13,8 @@ enum-told c = search needs
 returns : tie.Need-returns
 returns c =
     let groups = c .before .before in
-    let start = groups .before .before in
-    groups-fail (formatOf (start .args .format)) (start .args .carry .now) (start .args .grant) (start .args .marks) (groups .judge-groups .ensures) (c .enum-told .given .1)
+    let start = groups .before in
+    groups-fail (start .args .grant) (start .args .marks) (groups .judge-groups .ensures) (c .enum-told .given .1)
 
 enum-told-2 : tie.Need-enum-told-2
 enum-told-2 c = search needs
@@ -29,34 +26,15 @@ returns-2 : tie.Need-returns-2
 returns-2 c =
     let told = c .before .before in
     let groups = told .before .before in
-    let start = groups .before .before in
-    beside (formatOf (start .args .format)) (start .args .carry .now) (start .args .grant) (start .args .marks) (groups .judge-groups .ensures) (told .enum-told2 .given .1) (c .before .is-quiet .ensures) (c .if1 .taken)
-
-carried-requires : tie.Need-carried-requires
-carried-requires c κs = search needs
-
-hold-carry-requires : tie.Need-hold-carry-requires
-hold-carry-requires c κs = search needs
+    let start = groups .before in
+    beside (start .args .grant) (start .args .marks) (groups .judge-groups .ensures) (told .enum-told2 .given .1) (c .before .is-quiet .ensures) (c .if1 .taken)
 
 returns-3 : tie.Need-returns-3
 returns-3 c =
-    let held = c .before .before in
-    let owes = held .before in
-    let calm = owes .before .before in
-    let told = calm .before in
+    let told = c .before .before in
     let groups = told .before .before in
-    let start = groups .before .before in
-    too-long (formatOf (start .args .format)) (start .args .carry .now) (start .args .grant) (start .args .marks) (groups .judge-groups .ensures) (told .enum-told2 .given .1) (calm .is-quiet .ensures) (owes .before .if1 .left) (held .hold-carry .ensures) (ap (λ (t : Track). t .owed) (owes .carried .ensures)) (c .if2 .taken)
-
-returns-4 : tie.Need-returns-4
-returns-4 c =
-    let held = c .before .before in
-    let owes = held .before in
-    let calm = owes .before .before in
-    let told = calm .before in
-    let groups = told .before .before in
-    let start = groups .before .before in
-    behind-fine (formatOf (start .args .format)) (start .args .carry .now) (start .args .grant) (start .args .marks) (groups .judge-groups .ensures) (told .enum-told2 .given .1) (calm .is-quiet .ensures) (owes .before .if1 .left) (held .hold-carry .ensures) (ap (λ (t : Track). t .owed) (owes .carried .ensures)) (c .if2 .left)
+    let start = groups .before in
+    behind-fine (start .args .grant) (start .args .marks) (groups .judge-groups .ensures) (told .enum-told2 .given .1) (c .before .is-quiet .ensures) (c .if1 .left)
 
 pub judge-marks-spec : {M : Type 1} → statement M
 judge-marks-spec =
@@ -68,7 +46,4 @@ judge-marks-spec =
     enum-told-2
     is-quiet-requires
     returns-2
-    carried-requires
-    hold-carry-requires
-    returns-3
-    returns-4)
+    returns-3)
