@@ -109,15 +109,9 @@ static unsigned start_bits(uint32_t format, const uint8_t *c) {
     return header(format, c, 0) + 256u * header(format, c, 1);
 }
 
-/* The most bytes of a carried message that a container takes. */
-static size_t takes(uint32_t format) {
-    return format == 0 ? 240 : 200;
-}
-
-/* Judges a container by 1 and 3 to 20, `owed` being the bytes owed of a carried message; leaves those owed behind it. */
+/* Judges a container by 1 and 3 to 13, `owed` being the bytes owed of a carried message; leaves those owed behind it. */
 static uint32_t judge(uint32_t format, const uint8_t *c, size_t len, size_t *owed) {
     struct marks marks[GRANULES] = {{0, 0, 0, 0}};
-    size_t owed_before = *owed;
     if (len != CONTAINER)
         return refuse(1, 0);
     uint8_t p1 = header(format, c, 1), p2 = header(format, c, 2);
@@ -137,7 +131,7 @@ static uint32_t judge(uint32_t format, const uint8_t *c, size_t len, size_t *owe
     for (unsigned g = 0; g < GRANULES; g++)
         if (marks[g].activation && has_counts(format, c))
             return refuse(13, 0);
-    return owed_before > takes(format) ? refuse(20, 0) : 0;
+    return 0;
 }
 
 uint32_t plain_judge(uint32_t format, const uint8_t *c, size_t len) {

@@ -1,9 +1,11 @@
 -- Each number of the table is one cause's. Assumes nothing.
-use Prim.Native.Nat.{ℕ, _≤_}
+use Prim.Native.Nat.{ℕ, _≤_, _<_}
 use mathlib.Core.Path.{_≡_, refl, sym, ap, _∙_}
 use mathlib.Core.List.{List, [], _∷_}
+use mathlib.Core.Logic.{⊎-elim}
 use native.Mathlib.Omega.{arith}
-use lib.ListN.{getD}
+use lib.ListN.{length, getD, List·getD-eq-default}
+use Rattle.lists.proofs.Order.{lt-or-le}
 use Rattle.cause.specs.Causes.{causeNumber}
 use Rattle.cause.specs.declared.Cause.{Cause}
 use Rattle.cause.specs.declared.Cause.the-variants.{
@@ -82,32 +84,18 @@ numbered-back InvalidState = refl
 pub same-number : (a b : Cause) → causeNumber a ≡ causeNumber b → a ≡ b
 same-number a b e = sym (numbered-back a) ∙ ap numbered e ∙ numbered-back b
 
+-- a number at which no other cause stands is InvalidState's
+last-only : (c : Cause) → numbered (causeNumber c) ≡ InvalidState → causeNumber c ≡ causeNumber InvalidState
+last-only c e = ap causeNumber (sym (numbered-back c) ∙ e)
+
 -- 20 is retired: no cause has it
 pub retired : (c : Cause) → causeNumber c ≡ 20 → ⊥
 unfolding numbered causes
-retired c e =
-    let none : c ≡ InvalidState = sym (numbered-back c) ∙ ap numbered e in
-    let n : causeNumber c ≡ 19 = ap causeNumber none in
-    omega arith
+retired c e = let n = last-only c (ap numbered e) in omega arith
 
 -- no number is over 19
 pub number-most : (c : Cause) → causeNumber c ≤ 19
-number-most ContainerLength = omega arith
-number-most RoomTooSmall = omega arith
-number-most ReservedBitSet = omega arith
-number-most HeaderGrantForm = omega arith
-number-most StartInsideMessage = omega arith
-number-most UnknownMessage = omega arith
-number-most PlaceNotAllowed = omega arith
-number-most HeadWrong = omega arith
-number-most UnusedByteNotZero = omega arith
-number-most GapInGroup = omega arith
-number-most SecondMisc = omega arith
-number-most TooManyResponses = omega arith
-number-most GrantBesideActivation = omega arith
-number-most MissingPool = omega arith
-number-most BegunOverGranted = omega arith
-number-most GrantedOverCapacity = omega arith
-number-most BrokenRecord = omega arith
-number-most TooLong = omega arith
-number-most InvalidState = omega arith
+unfolding numbered causes
+number-most c =
+    ⊎-elim (λ (h : causeNumber c < length causes). omega arith)
+    (λ (h : length causes ≤ causeNumber c). let n = last-only c (List·getD-eq-default causes InvalidState h) in omega arith) (lt-or-le (causeNumber c) (length causes))

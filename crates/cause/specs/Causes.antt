@@ -1,4 +1,4 @@
--- Causes and places (document 01): the number of each cause.
+-- Causes and places (document 01): the number of each cause; 20 is retired (document 02, K11).
 use Prim.Native.Nat.{ℕ}
 use Rattle.cause.specs.declared.Cause.{Cause}
 use Rattle.cause.specs.declared.Cause.the-variants.{

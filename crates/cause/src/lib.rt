@@ -1,8 +1,8 @@
-// The causes of refusal and their numbers (document 01, "Causes and places").
+// The causes of refusal and their numbers (document 01, "Causes and places"; 20 is retired by document 02, K11).
 ghost use mathlib.Core.Path.{_≡_};
 ghost use Rattle.cause.specs.Causes.{causeNumber};
 
-// Why an input is refused: one variant for each row of document 01's table, in its order.
+// Why an input is refused: one variant for each number of the table of causes, in its order.
 pub enum Cause {
     ContainerLength,
     RoomTooSmall,
@@ -31,7 +31,7 @@ pub enum Verdict {
     Faulty(Cause, u64),
 }
 
-// The number of a cause in document 01's table.
+// The number of a cause in the table.
 pub fn number_cause(cause: Cause) -> u32
     ensures { λ r. ⌜ r ≡ causeNumber cause ⌝ }
 {

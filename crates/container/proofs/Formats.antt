@@ -8,7 +8,7 @@ use native.Mathlib.Omega.{arith}
 use lib.ListN.{length}
 use lib.Dec.{T, eqb, ltb, leb, leb→le, ltb→lt, eqb→eq, T-not}
 use borrow.Author.Tests.{eq-eqb}
-use Rattle.lists.proofs.Tests.{or-cases, true-T}
+use Rattle.lists.proofs.Tests.{or-cases, T-true, true-T}
 use Rattle.lists.proofs.Tables.{below, below-at}
 use Rattle.lists.proofs.PartLaws.{length-part}
 use Rattle.lists.specs.Pick.{pick}
@@ -53,6 +53,7 @@ module _ (fm : Format) where
     c-least : T (below 12 t-least)
     c-most : T (below 12 t-most)
     c-narrow : T (below 12 t-narrow)
+    c-first : T (below 5 (wide fm))
     c-owned : T (below 256 t-owned)
 
   under : (g h : ℕ) → g < h → T (leb h g) → ⊥
@@ -68,6 +69,7 @@ module _ (fm : Format) where
     least = λ g b. leb→le 10 (fm .size g) (below-at 12 t-least (t .c-least) g b);
     most = λ g b. leb→le (fm .size g) 20 (below-at 12 t-most (t .c-most) g b);
     narrow-last = λ g b w. ⊎-elim (λ (x : T (wide fm g)). absurd (subst T w x)) (λ (x : T (eqb (g % 3) 2)). eqb→eq (g % 3) 2 x) (or-cases (wide fm g) (eqb (g % 3) 2) (below-at 12 t-narrow (t .c-narrow) g b));
+    first-wide = λ g b. T-true (wide fm g) (below-at 5 (wide fm) (t .c-first) g b);
     owned = λ i b. eqb→eq (owners fm i) 1 (below-at 256 t-owned (t .c-owned) i b);
   }
 
@@ -76,8 +78,8 @@ abbrev named : Bool → Format
 named x = record { size = λ g. pick x (sizeX g) (sizeY g); place = λ i. pick x (placeX i) (placeY i); link = λ i. pick x (linkX i) (linkY i) }
 
 computed : (x : Bool) → Computed (named x)
-computed true = record { c-inside = tt; c-apart = tt; c-header-inside = tt; c-header-distinct = tt; c-header-outside = tt; c-least = tt; c-most = tt; c-narrow = tt; c-owned = tt }
-computed false = record { c-inside = tt; c-apart = tt; c-header-inside = tt; c-header-distinct = tt; c-header-outside = tt; c-least = tt; c-most = tt; c-narrow = tt; c-owned = tt }
+computed true = record { c-inside = tt; c-apart = tt; c-header-inside = tt; c-header-distinct = tt; c-header-outside = tt; c-least = tt; c-most = tt; c-narrow = tt; c-first = tt; c-owned = tt }
+computed false = record { c-inside = tt; c-apart = tt; c-header-inside = tt; c-header-distinct = tt; c-header-outside = tt; c-least = tt; c-most = tt; c-narrow = tt; c-first = tt; c-owned = tt }
 
 -- the format of every number is lawful: 0 is X, and any other number has Y's layout
 pub lawful-of : (f : ℕ) → Lawful (formatOf f)

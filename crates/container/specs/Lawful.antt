@@ -1,7 +1,7 @@
 -- What every format keeps: facts about its granules, its header bytes and its link header.
 use Prim.Native.Nat.{ℕ, zero, suc, _+_, _%_, _≤_, _<_}
 use mathlib.Core.Path.{_≡_}
-use mathlib.Core.Bool.{Bool, false, _&&_}
+use mathlib.Core.Bool.{Bool, true, false, _&&_}
 use mathlib.Core.Logic.{_⊎_}
 use lib.Dec.{eqb, ltb, leb}
 use Rattle.lists.specs.Pick.{pick}
@@ -33,5 +33,7 @@ pub record Lawful (fm : Format) : Type 0 where
   pub least : (g : ℕ) → g < 12 → 10 ≤ fm .size g
   pub most : (g : ℕ) → g < 12 → fm .size g ≤ 20
   pub narrow-last : (g : ℕ) → g < 12 → wide fm g ≡ false → g % 3 ≡ 2
+  -- G0 to G4 have 20 bytes
+  pub first-wide : (g : ℕ) → g < 5 → wide fm g ≡ true
   -- each byte of a container is a granule's, a header byte, or link header
   pub owned : (i : ℕ) → i < 256 → owners fm i ≡ 1

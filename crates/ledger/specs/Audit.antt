@@ -93,7 +93,7 @@ roomChecks s d ns (suc k) p =
     check (leb (heldOf s d p + (grantedTo p ns + openOf s d p)) (getD (receiverOf s d .capacities) p 0)) GrantedOverCapacity p
     ∷ roomChecks s d ns k (p + 1)
 
--- 19, 1; the reader's 3 to 20; 14 by started messages, then by the header's grant and the CrdtGrants; then 15, then 16
+-- 19, 1; the reader's 3 to 13; 14 by started messages, then by the header's grant and the CrdtGrants; then 15, then 16
 unfoldable pub auditChecks : Ledger → ℕ → List ℕ → List Check
 auditChecks s d c =
     check (ltb d 2 && ledgerOk s) InvalidState 0

@@ -1,18 +1,17 @@
 -- A carried message ends in the next container, whatever that holds: no message lies in three. Assumes nothing.
 use Prim.Native.Nat.{ℕ, zero, suc, _+_, _*_, _≤_, _<_}
 use mathlib.Core.Path.{_≡_, refl, sym, ap, _∙_}
-use mathlib.Core.Bool.{Bool, true, false, _&&_}
+use mathlib.Core.Bool.{true, false}
 use mathlib.Core.List.{List, [], _∷_, _++_}
 use mathlib.Core.Logic.{⊎-elim}
 use native.Mathlib.Omega.{arith}
 use lib.ListN.{length, take, length-append}
-use lib.Dec.{eqb, ltb}
 use lib.Seq.{take-take, take-at, take-length, length-take-le}
-use borrow.Author.Tests.{lt-ltb, ne-eqb, eqb-true, leb-true, leb-false}
+use borrow.Author.Tests.{lt-ltb, eqb-true, leb-true, leb-false}
 use Rattle.lists.specs.Pick.{pick}
 use Rattle.lists.proofs.Tests.{cases}
 use Rattle.container.specs.Layout.{Format, formatOf, wide, granule}
-use Rattle.container.proofs.Formats.{granule-length}
+use Rattle.container.proofs.Formats.{lawful-of, granule-length}
 use Rattle.message.specs.Heads.{msgSize}
 use Rattle.message.proofs.HeadLaws.{size-append, size-most}
 use Rattle.reader.specs.Cells.{owed, whole}
@@ -20,12 +19,6 @@ use Rattle.reader.specs.Keeps.{progress, cellOf, endedTo, CarryEnds}
 use Rattle.reader.specs.Reading.{carried, readerOk}
 use Rattle.reader.specs.declared.reader.Reader.{Reader}
 use Rattle.reader.proofs.CarryLaws.{Half, granules-more, ok-valid, reader-ok}
-
--- G0 to G4 have 20 bytes in both formats
-first-wide : (f g : ℕ) → g < 5 → wide (formatOf f) g ≡ true
-first-wide f g b =
-    ⊎-elim (λ (e : eqb f 0 ≡ true). rw e)
-    (λ (e : eqb f 0 ≡ false). rw (e, ne-eqb g 5 (λ z. omega arith), ne-eqb g 11 (λ z. omega arith))) (cases (eqb f 0))
 
 module _ (f : ℕ) (c p : List ℕ) (n : length c ≡ 256) where
   abbrev fm : Format
@@ -46,7 +39,7 @@ module _ (f : ℕ) (c p : List ℕ) (n : length c ≡ 256) where
     x = progress fm c p g ++ granule fm g c
 
     w : wide fm g ≡ true
-    w = first-wide f g b
+    w = lawful-of f .first-wide g b
 
     here : length (granule fm g c) ≡ 20
     here = granule-length f g c (omega arith) n ∙ eqb-true (fm .size g) 20 w
@@ -63,11 +56,12 @@ module _ (f : ℕ) (c p : List ℕ) (n : length c ≡ 256) where
         ∙ ap (take (length p)) (take-at (progress fm c p g) (granule fm g c) (length (progress fm c p g)) refl)
         ∙ s .begins
 
-    on : (ltb 0 (owed (progress fm c p g)) && wide fm g) ≡ true
+    on : cellOf fm c p g .goesOn ≡ true
+    unfolding cellOf
     on = let h = s .half .not-all in rw (lt-ltb 0 (owed (progress fm c p g)) (omega arith), w)
 
     next-progress : progress fm c p (suc g) ≡ pick (whole x) [] x
-    unfolding progress
+    unfolding progress cellOf
     next-progress = rw on
 
     next-ended : endedTo fm c p (suc g) ≡ pick (whole x) (take (msgSize x) x ∷ []) []

@@ -1,4 +1,4 @@
--- The checks of a container (document 01, "Placement" and "Causes and places"), in the order of refusal.
+-- The checks of a container (document 01, "Placement" and "Causes and places", less 20 by document 02, K11), in the order of refusal.
 use Prim.Native.Nat.{ℕ, zero, suc, _+_}
 use mathlib.Core.Bool.{Bool, true, _&&_, _||_, not}
 use mathlib.Core.List.{List, [], _∷_, _++_}

@@ -20,6 +20,7 @@ use Rattle.cause.proofs.CheckLaws.{pass-sound}
 use Rattle.container.specs.Layout.{Format, formatOf, wide}
 use Rattle.container.specs.Grants.{planeAllowed}
 use Rattle.container.specs.declared.grant.Grant.{Grant}
+use Rattle.container.proofs.Formats.{lawful-of}
 use Rattle.message.specs.Heads.{typeOf, isMisc, activation, linkStatus}
 use Rattle.message.specs.Places.{placed, miscsBy, responsesBy}
 use Rattle.message.proofs.PlaceLaws.{miscs-most, responses-most}
@@ -115,7 +116,7 @@ legal-first fm m w =
 
 -- G0 is wide, and so are five of the other granules
 wide-first : (f : ℕ) → wide (formatOf f) 0 ≡ true
-wide-first f = ⊎-elim (λ (e : eqb f 0 ≡ true). rw e) (λ (e : eqb f 0 ≡ false). rw e) (cases (eqb f 0))
+wide-first f = lawful-of f .first-wide 0 (omega arith)
 
 wide-others : (f : ℕ) → 5 ≤ wides (formatOf f) 11 1
 wide-others f = ⊎-elim (λ (e : eqb f 0 ≡ true). rw e (omega arith)) (λ (e : eqb f 0 ≡ false). rw e (omega arith)) (cases (eqb f 0))

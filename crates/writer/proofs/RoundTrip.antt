@@ -1,5 +1,5 @@
 -- A container that was filled is read back: its grant, and the messages that were owed or used of the list. Assumes nothing.
-use Prim.Native.Nat.{ℕ, zero, suc, _+_, _-_, _*_, _%_, _≤_, _<_}
+use Prim.Native.Nat.{ℕ, zero, suc, _+_, _-_, _%_, _≤_, _<_}
 use mathlib.Core.Path.{_≡_, refl, sym, ap, _∙_, subst}
 use mathlib.Core.Bool.{Bool, true, false, _&&_, _||_, not}
 use mathlib.Core.List.{List, [], _∷_, _++_, append-cancel-right}
@@ -15,7 +15,6 @@ use Rattle.cause.specs.Checks.{Pass, firstFault}
 use Rattle.cause.specs.declared.Verdict.the-variants.{Sound}
 use Rattle.cause.proofs.CheckLaws.{pass-sound, sound-pass, pass-append, both-sound}
 use Rattle.container.specs.Layout.{Format, formatOf, wide}
-use Rattle.container.specs.Lawful.{howMany}
 use Rattle.container.specs.Grants.{headerGrant, planeAllowed, noCounts}
 use Rattle.container.specs.declared.grant.Grant.{Grant}
 use Rattle.container.proofs.Formats.{lawful-of}
@@ -39,7 +38,7 @@ use Rattle.writer.specs.Calls.{Fills, Reads, underWay}
 use Rattle.writer.specs.declared.writer.Writer.{Writer}
 use Rattle.writer.specs.declared.writer.Answer.the-variants as answer
 use Rattle.writer.proofs.OtherOrder.{OtherOrder, unchanged, other-order-on}
-use Rattle.writer.proofs.Simulation.{Link, idle, busy, begun, message-most, size-m, owed-m, start-head, legal-placed, Left, is-next, beneath-legal, give-next, give-not, give-none, give-on, give-beneath, give-over, give-last, step-followed}
+use Rattle.writer.proofs.Simulation.{Link, idle, busy, begun, message-most, size-m, start-head, legal-placed, Left, is-next, beneath-legal, give-next, give-not, give-none, give-on, give-beneath, give-over, give-last, step-followed}
 use Rattle.writer.proofs.Run.{Written, Ran, plan-followed, cells-shown}
 use Rattle.writer.proofs.PlanLaws.{plan-length}
 use Rattle.writer.proofs.Groups.{packed-none, groups-pass}

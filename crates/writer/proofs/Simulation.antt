@@ -164,7 +164,7 @@ module _ (m t : List ℕ) (h : Message (m ++ t)) (a : length m % 20 ≡ 0) (b : 
   pub size-m : msgSize m ≡ length m + length t
   size-m = sym (size-append m t (omega arith)) ∙ h .sized ∙ length-append m t
 
-  pub owed-m : owed m ≡ length t
+  owed-m : owed m ≡ length t
   owed-m = rw size-m (omega arith)
 
   is-owed : ltb 0 (owed m) ≡ true

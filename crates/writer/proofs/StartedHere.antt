@@ -10,12 +10,12 @@ use lib.ListN.{length, drop, length-drop}
 use lib.Dec.{eqb}
 use borrow.Author.Tests.{eqb-true}
 use Rattle.lists.specs.Pick.{pick}
-use Rattle.lists.proofs.Tests.{never-both, T-true}
+use Rattle.lists.proofs.Tests.{never-both}
 use Rattle.lists.proofs.Order.{lt-or-le}
-use Rattle.lists.proofs.Tables.{below-at}
-use Rattle.lists.proofs.PickLaws.{pick-both, pick-by}
-use Rattle.container.specs.Layout.{Format, sizeY, formatOf, wide}
+use Rattle.lists.proofs.PickLaws.{pick-by}
+use Rattle.container.specs.Layout.{Format, formatOf, wide}
 use Rattle.container.specs.declared.grant.Grant.{Grant}
+use Rattle.container.proofs.Formats.{lawful-of}
 use Rattle.record.specs.Records.{firstOf, messageOf}
 use Rattle.record.specs.declared.list.First.{First}
 use Rattle.record.specs.declared.list.First.the-variants.{Empty, Bad, Whole}
@@ -89,10 +89,7 @@ module _ (fm : Format) (n : Grant) (l : List ℕ) (k : ℕ) (low : (g : ℕ) →
 
 -- every granule below G5 has 20 bytes
 narrow-high : (f g : ℕ) → wide (formatOf f) g ≡ false → 100 ≤ 20 * g
-narrow-high f g e = ⊎-elim (λ (b : g < 5). absurd (never-both e (low b))) (λ (b : 5 ≤ g). omega arith) (lt-or-le g 5)
-  where
-    low : g < 5 → wide (formatOf f) g ≡ true
-    low b = pick-both (λ (n : ℕ). eqb n 20 ≡ true) (eqb f 0) refl (T-true (eqb (sizeY g) 20) (below-at 5 (λ i. eqb (sizeY i) 20) tt g b))
+narrow-high f g e = ⊎-elim (λ (b : g < 5). absurd (never-both e (lawful-of f .first-wide g b))) (λ (b : 5 ≤ g). omega arith) (lt-or-le g 5)
 
 pub started-here : (f : ℕ) (n : Grant) (l t : List ℕ) → length t ≤ 100 → (g : ℕ) → wide (formatOf f) g ≡ false
     → 0 < length (cursorLast (formatOf f) n l g 0 (cursorOf t) .owes) → 0 < cursorLast (formatOf f) n l g 0 (cursorOf t) .at

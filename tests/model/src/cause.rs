@@ -19,7 +19,6 @@ pub const OVER_CAPACITY: u32 = 16;
 pub const BROKEN: u32 = 17;
 pub const TOO_LONG: u32 = 18;
 pub const NOT_VALID: u32 = 19;
-pub const THIRD_CONTAINER: u32 = 20;
 
 /// A cause and the place that it names.
 #[derive(Clone, Copy, PartialEq, Eq, Debug)]

@@ -288,6 +288,19 @@ fn carries_that_are_valid() {
 }
 
 #[test]
+fn carried_messages_end() {
+    for format in [Format::X, Format::Y] {
+        for kind in KINDS {
+            let whole = message(kind);
+            for len in (20..whole.len()).step_by(20) {
+                let reading = judge(format, &Part::of(&whole[..len]), &[0; CONTAINER]).unwrap();
+                assert_eq!((reading.finished, reading.carry.len), (vec![whole.clone()], 0));
+            }
+        }
+    }
+}
+
+#[test]
 fn ledgers_that_are_valid() {
     let fresh = ledger(SHARED_DAT, 1);
     assert!(fresh.is_valid());

@@ -2,7 +2,7 @@
 
 use crate::cause::{
     refusal, require, Refusal, CONTAINER_LENGTH, GRANT_BESIDE_ACTIVATION, HEAD, NOT_VALID, PLACE, ROOM, START_INSIDE,
-    THIRD_CONTAINER, UNKNOWN_TYPE, UNUSED_BYTE,
+    UNKNOWN_TYPE, UNUSED_BYTE,
 };
 use crate::layout::{is_zero, Format, Grant, Header, Part, CONTAINER, GRANULES};
 use crate::list::write_list;
@@ -77,7 +77,7 @@ fn code(refused: Option<Refusal>) -> u32 {
     refused.map_or(0, |r| r.cause * 65_536 + r.place as u32)
 }
 
-/// Judges 256 bytes from a valid carry: causes 3 to 13 and 20.
+/// Judges 256 bytes from a valid carry: causes 3 to 13.
 fn judge_bytes(format: Format, carry: &Part, container: &[u8]) -> Result<Reading, Refusal> {
     let header = Header::read(format, container)?;
     let mut walk = Walk::from_carry(carry);
@@ -87,7 +87,6 @@ fn judge_bytes(format: Format, carry: &Part, container: &[u8]) -> Result<Reading
     walk.placement.judge_groups()?;
     let activates = walk.placement.has(Kind::Activation);
     require(!activates || header.grant.is_empty(), GRANT_BESIDE_ACTIVATION, 0)?;
-    require(walk.ends_in_next(format), THIRD_CONTAINER, 0)?;
     Ok(Reading { started: walk.started, finished: walk.finished, carry: Part::of(&walk.open), grant: header.grant })
 }
 
@@ -155,11 +154,5 @@ impl Walk {
     /// How many bytes the open message still lacks.
     fn missing(&self) -> usize {
         Kind::of(&self.open).map_or(0, |kind| kind.size() - self.open.len())
-    }
-
-    /// Whether the next container has granules enough for the rest of the open message.
-    fn ends_in_next(&self, format: Format) -> bool {
-        let room: usize = format.occupied(0, CONTAINER).into_iter().map(|g| format.granule_size(g)).sum();
-        self.missing() <= room
     }
 }
