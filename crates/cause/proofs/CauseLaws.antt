@@ -1,4 +1,4 @@
--- Each number of the table is one cause's. Assumes nothing.
+-- Each number of the table is one cause's, and 20 is none's. Assumes nothing.
 use Prim.Native.Nat.{ℕ, _≤_, _<_}
 use mathlib.Core.Path.{_≡_, refl, sym, ap, _∙_}
 use mathlib.Core.List.{List, [], _∷_}

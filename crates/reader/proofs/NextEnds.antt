@@ -1,5 +1,5 @@
 -- A carried message ends in the next container, whatever that holds: no message lies in three. Assumes nothing.
-use Prim.Native.Nat.{ℕ, zero, suc, _+_, _*_, _≤_, _<_}
+use Prim.Native.Nat.{ℕ, zero, suc, _+_, _-_, _*_, _≤_, _<_}
 use mathlib.Core.Path.{_≡_, refl, sym, ap, _∙_}
 use mathlib.Core.Bool.{true, false}
 use mathlib.Core.List.{List, [], _∷_, _++_}
@@ -14,10 +14,11 @@ use Rattle.container.specs.Layout.{Format, formatOf, wide, granule}
 use Rattle.container.proofs.Formats.{lawful-of, granule-length}
 use Rattle.message.specs.Heads.{msgSize}
 use Rattle.message.proofs.HeadLaws.{size-append, size-most}
-use Rattle.reader.specs.Cells.{owed, whole}
+use Rattle.reader.specs.Cells.{owed, whole, cells, endings}
 use Rattle.reader.specs.Keeps.{progress, cellOf, endedTo, CarryEnds}
 use Rattle.reader.specs.Reading.{carried, readerOk}
 use Rattle.reader.specs.declared.reader.Reader.{Reader}
+use Rattle.reader.proofs.ProgressLaws.{endings-from}
 use Rattle.reader.proofs.CarryLaws.{Half, granules-more, ok-valid, reader-ok}
 
 module _ (f : ℕ) (c p : List ℕ) (n : length c ≡ 256) where
@@ -73,13 +74,17 @@ module _ (f : ℕ) (c p : List ℕ) (n : length c ≡ 256) where
     whole-ends t =
         let all : msgSize x ≤ length x = leb-true (msgSize x) (length x) t in
         let h = s .half .not-all in
+        let here-ended : endedTo fm c p (suc g) ≡ take (msgSize x) x ∷ [] = rw (next-ended, t) in
+        let behind : List (List ℕ) = endings fm (suc g) (cells fm c (11 - g) (suc g) (progress fm c p (suc g))) (progress fm c p (suc g)) in
+        let twelve : 12 ≡ suc g + (11 - g) = omega arith in
         record {
-          granule = suc g;
           message = take (msgSize x) x;
-          early = omega arith;
-          ends = rw (next-ended, t);
+          others = behind;
+          first = ap (endedTo fm c p) twelve ∙ sym (endings-from fm c p (11 - g) (suc g)) ∙ ap (λ (l : List (List ℕ)). l ++ behind) here-ended;
           begins = take-take (length p) (msgSize x) x (omega (arith, size, s .longer, s .sized)) ∙ front;
           whole = length-take-le (msgSize x) x all ∙ size;
+          granule = suc g;
+          early = omega arith;
           nothing-left = rw (next-progress, t);
         }
 

@@ -26,15 +26,17 @@ unfoldable pub endedTo : Format → List ℕ → List ℕ → ℕ → List (List
 endedTo fm c m zero = []
 endedTo fm c m (suc g) = endedTo fm c m g ++ ended (cellOf fm c m g) (progress fm c m g)
 
--- a message of which p was read ends in container c: when some granule up to G5 is reached it alone has ended, whole, and nothing is in
--- progress
+-- a message of which p was read ends in container c
 pub record CarryEnds (fm : Format) (c p : List ℕ) : Type 0 where
-  pub granule : ℕ
   pub message : List ℕ
-  pub early : granule ≤ 5
-  pub ends : endedTo fm c p granule ≡ message ∷ []
+  pub others : List (List ℕ)
+  -- it is the first that ends there, it begins with what was read, and all of its bytes are there
+  pub first : endedTo fm c p 12 ≡ message ∷ others
   pub begins : take (length p) message ≡ p
   pub whole : length message ≡ msgSize p
+  -- when some granule up to G5 is reached, nothing is in progress
+  pub granule : ℕ
+  pub early : granule ≤ 5
   pub nothing-left : progress fm c p granule ≡ []
 
 -- a granule: nothing starts where a message goes on; what starts is known, in a place that takes it, with a right head; unused
