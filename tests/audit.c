@@ -8,7 +8,7 @@
 #include "plain.h"
 #include "traffic.h"
 
-enum { LINE = 65536, BYTES = 65536, MOST = 64, RUN = 24, JUDGED = 200000, CAUSES = 21 };
+enum { LINE = 65536, BYTES = 65536, MOST = 64, RUN = 24, JUDGED = 200000, LAST_CAUSE = 19 };
 
 /* What a run is made of: numbers, and entries one behind the other. */
 struct input {
@@ -246,7 +246,7 @@ static void draw_run(struct input *in) {
 /* Compares random runs until enough entries are judged; answers how many runs. */
 static unsigned run_random(void) {
     static struct input in;
-    unsigned runs = 0, seen[CAUSES] = {0};
+    unsigned runs = 0, seen[LAST_CAUSE + 1] = {0};
     for (size_t judged = 0; judged < JUDGED; runs++) {
         char name[32];
         draw_run(&in);
@@ -256,7 +256,7 @@ static unsigned run_random(void) {
         seen[run.cause]++;
     }
     printf("audit: random runs by cause:");
-    for (unsigned i = 0; i < CAUSES; i++)
+    for (unsigned i = 0; i <= LAST_CAUSE; i++)
         if (seen[i] > 0)
             printf(" %u (%u)", i, seen[i]);
     printf("\n");
