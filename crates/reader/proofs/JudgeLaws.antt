@@ -36,24 +36,24 @@ without-counts false false e = e
 
 -- the verdict behind the granules, with the groups' verdict
 module _ (grant : Grant) (l : List ℕ) {groups : Verdict} (eg : groups ≡ firstFault (markChecks 4 0 l)) where
-  abbrev calmBy : Bool
-  calmBy = eqb (activationMarks 12 0 l) 0 || noCounts grant
+  abbrev quietBy : Bool
+  quietBy = eqb (activationMarks 12 0 l) 0 || noCounts grant
 
-  joined : firstFault (behindGranules grant l) ≡ orElse groups (firstFault (check calmBy GrantBesideActivation 0 ∷ []))
-  joined = rw eg (first-append (markChecks 4 0 l) (check calmBy GrantBesideActivation 0 ∷ []))
+  joined : firstFault (behindGranules grant l) ≡ orElse groups (firstFault (check quietBy GrantBesideActivation 0 ∷ []))
+  joined = rw eg (first-append (markChecks 4 0 l) (check quietBy GrantBesideActivation 0 ∷ []))
 
   pub groups-fail : {k : Cause} {p : ℕ} → groups ≡ Faulty k p → groups ≡ firstFault (behindGranules grant l)
   groups-fail e = rw (joined, e)
 
-  module _ (s : groups ≡ Sound) {calm : Bool} (ec : calm ≡ calmBy) where
-    left : firstFault (behindGranules grant l) ≡ firstFault (check calm GrantBesideActivation 0 ∷ [])
-    left = joined ∙ rw (s, ec)
+  module _ (s : groups ≡ Sound) {quiet : Bool} (eq : quiet ≡ quietBy) where
+    left : firstFault (behindGranules grant l) ≡ firstFault (check quiet GrantBesideActivation 0 ∷ [])
+    left = joined ∙ rw (s, eq)
 
-    pub beside : not calm ≡ true → Faulty GrantBesideActivation 0 ≡ firstFault (behindGranules grant l)
-    beside q = rw (left, not-true calm q)
+    pub beside : not quiet ≡ true → Faulty GrantBesideActivation 0 ≡ firstFault (behindGranules grant l)
+    beside q = rw (left, not-true quiet q)
 
-    pub behind-fine : not calm ≡ false → Sound ≡ firstFault (behindGranules grant l)
-    behind-fine q = rw (left, not-false calm q)
+    pub behind-fine : not quiet ≡ false → Sound ≡ firstFault (behindGranules grant l)
+    behind-fine q = rw (left, not-false quiet q)
 
 -- a container whose cells are judged
 length-cells : (fm : Format) (c : List ℕ) (k g : ℕ) (m : List ℕ) → length (cells fm c k g m) ≡ k

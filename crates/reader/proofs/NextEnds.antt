@@ -118,6 +118,7 @@ module _ (f : ℕ) (c p : List ℕ) (n : length c ≡ 256) where
       ends-by 5 0 (omega arith)
       (record { half = h; none-ended = refl; longer = omega arith; begins = take-length p; sized = refl; fits = omega (arith, size-most p) })
 
+-- from every valid reader that carries a message, and with every container of 256 bytes
 pub carried-ends : (s : Reader) (c : List ℕ) → readerOk s ≡ true → length c ≡ 256 → 0 < length (carried s)
     → CarryEnds (formatOf (s .format)) c (carried s)
 carried-ends s c v n some =
