@@ -81,6 +81,46 @@ pub number-small : (n : ℕ) → n < 128 → number n ≡ n ∷ []
 unfolding number
 number-small n h = rw (lt-ltb n 128 h)
 
+-- groups behind a byte whose top bit is set make the number at least 128
+joined-large : (low : ℕ) (r : Number) (n u : ℕ) → joined low r ≡ Value n u → 128 ≤ n
+joined-large low Broken n u e = let z : _≡_ {A = ℕ} 0 1 = cc in absurd (omega arith)
+joined-large low (Value v q) n u e = ⊎-elim longer other (cases (eqb v 0))
+  where
+    longer : eqb v 0 ≡ true → 128 ≤ n
+    longer t = let f : Broken ≡ Value n u = rw t at e in let z : _≡_ {A = ℕ} 0 1 = cc in absurd (omega arith)
+
+    other : eqb v 0 ≡ false → 128 ≤ n
+    other t = ⊎-elim fits over (cases (leb (low % 128 + 128 * v) largest))
+      where
+        over : leb (low % 128 + 128 * v) largest ≡ false → 128 ≤ n
+        over x = let f : Broken ≡ Value n u = rw (t, x) at e in let z : _≡_ {A = ℕ} 0 1 = cc in absurd (omega arith)
+
+        fits : leb (low % 128 + 128 * v) largest ≡ true → 128 ≤ n
+        fits x =
+            let f : Value (low % 128 + 128 * v) (q + 1) ≡ Value n u = rw (t, x) at e in
+            let en : low % 128 + 128 * v ≡ n = cc in
+            let d = eqb-false v 0 t in
+            omega arith
+
+groups-small : (k : ℕ) (l : List ℕ) (n u : ℕ) → readGroups k l ≡ Value n u → n < 128 → u ≡ 1
+groups-small zero l n u e h = let z : _≡_ {A = ℕ} 0 1 = cc in absurd (omega arith)
+groups-small (suc k) [] n u e h = let z : _≡_ {A = ℕ} 0 1 = cc in absurd (omega arith)
+groups-small (suc k) (b ∷ l) n u e h = ⊎-elim one several (cases (ltb b 128))
+  where
+    one : ltb b 128 ≡ true → u ≡ 1
+    one t = let f : Value b 1 ≡ Value n u = rw t at e in cc
+
+    several : ltb b 128 ≡ false → u ≡ 1
+    several t =
+        let f : joined b (readGroups k l) ≡ Value n u = rw t at e in
+        let large = joined-large b (readGroups k l) n u f in
+        absurd (omega arith)
+
+-- a number below 128 that is read is one byte
+pub read-small : (l : List ℕ) (n u : ℕ) → readNumber l ≡ Value n u → n < 128 → u ≡ 1
+unfolding readNumber
+read-small l n u e h = groups-small 5 l n u e h
+
 -- ---- what was read is what is written
 
 -- a number of u bytes stands at the front of l

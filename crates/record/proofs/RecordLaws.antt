@@ -24,7 +24,7 @@ use Rattle.record.specs.declared.number.Number.{Number}
 use Rattle.record.specs.declared.number.Number.the-variants.{Broken, Value}
 use Rattle.record.specs.declared.list.First.{First}
 use Rattle.record.specs.declared.list.First.the-variants.{Empty, Bad, Whole}
-use Rattle.record.proofs.NumberLaws.{Stands, read-written, written-read}
+use Rattle.record.proofs.NumberLaws.{Stands, read-written, written-read, read-small}
 
 -- ---- the first record
 
@@ -91,6 +91,29 @@ first-some (b ∷ l) d = refl
 pub first-within : (l : List ℕ) (start end : ℕ) → firstOf l ≡ Whole start end → (start < end) × (end ≤ length l)
 first-within [] start end q = let z : _≡_ {A = ℕ} 0 1 = cc in absurd (omega arith)
 first-within (b ∷ l) start end q = cut-within (b ∷ l) (readNumber (b ∷ l)) start end q
+
+-- the longest record: one byte of its number, and 120 of its message
+cut-short-record : (l : List ℕ) (r : Number) → readNumber l ≡ r → (start end : ℕ) → cut l r ≡ Whole start end → end ≤ 121
+cut-short-record l Broken er start end q = let z : _≡_ {A = ℕ} 0 1 = cc in absurd (omega arith)
+cut-short-record l (Value n u) er start end q = ⊎-elim yes no (cases (leb (u + n) (length l) && isMessage (part u n l)))
+  where
+    no : (leb (u + n) (length l) && isMessage (part u n l)) ≡ false → end ≤ 121
+    no t = let f : Bad ≡ Whole start end = rw t at q in let z : _≡_ {A = ℕ} 0 1 = cc in absurd (omega arith)
+
+    yes : (leb (u + n) (length l) && isMessage (part u n l)) ≡ true → end ≤ 121
+    yes t =
+        let f : Whole u (u + n) ≡ Whole start end = rw t at q in
+        let ee : u + n ≡ end = cc in
+        let fits : u + n ≤ length l = leb-true (u + n) (length l) (and-left (leb (u + n) (length l)) (isMessage (part u n l)) t) in
+        let len : length (part u n l) ≡ n = length-part u n l fits in
+        let sized = is-message (part u n l) (and-right (leb (u + n) (length l)) (isMessage (part u n l)) t) .sized in
+        let most = size-most (part u n l) in
+        let one : u ≡ 1 = read-small l n u er (omega arith) in
+        omega arith
+
+pub first-short : (l : List ℕ) (start end : ℕ) → firstOf l ≡ Whole start end → end ≤ 121
+first-short [] start end q = let z : _≡_ {A = ℕ} 0 1 = cc in absurd (omega arith)
+first-short (b ∷ l) start end q = cut-short-record (b ∷ l) (readNumber (b ∷ l)) refl start end q
 
 -- a record that is read is one that is written
 pub first-splits : (l : List ℕ) → IsBytes l → (start end : ℕ) → firstOf l ≡ Whole start end → Splits l start end
