@@ -1,0 +1,9 @@
+pub mod BelongLaws
+pub mod FoundLaws
+pub mod StepCases
+pub mod RecordCases
+pub mod RuleLaws
+pub mod TurnLaws
+pub mod FaultlessLaws
+pub mod ServiceLaws
+pub mod FeedEdges

@@ -1,0 +1,4 @@
+pub mod Due
+pub mod Feeding
+pub mod Rules
+pub mod Asks
