@@ -1,4 +1,4 @@
-/* The check of one CHI C2C container, for a bench host written in C. */
+/* The check of one CHI C2C container and the feeder of two waiting lists, for a bench host written in C. */
 #ifndef C2C_H
 #define C2C_H
 
@@ -16,6 +16,24 @@ extern "C" {
  * least 352 bytes; on a refusal the room is untouched.
  */
 uint32_t c2c_check(uint32_t format, const uint8_t *container, size_t container_len, uint8_t *room, size_t room_len);
+
+/*
+ * Asks for the next record of two waiting lists, one of responses and one of
+ * everything else. The caller keeps the feed, three numbers that are zero at
+ * first: the position in the response list, the position in the other list, and
+ * the responses handed out in a row while the other list waited.
+ * Answers cause * 16,777,216 + list * 65,536 + n, where the list is 0 for
+ * neither, 1 for the responses and 2 for the others:
+ * - 0: both lists are empty;
+ * - cause 0: the next n bytes of that list are a record, size number included,
+ *   which stands at the front of the room;
+ * - any other cause: a refusal with the list at fault and the place n.
+ * Unless it is a refusal the feed is the one to ask with next; on a refusal feed
+ * and room are untouched. The room has at least 121 bytes (else cause 2), and
+ * feed and room lie apart from the lists and from each other.
+ */
+uint32_t c2c_feed(uint32_t format, uint32_t *feed, size_t feed_len, const uint8_t *responses, size_t responses_len,
+                  const uint8_t *others, size_t others_len, uint8_t *room, size_t room_len);
 
 #ifdef __cplusplus
 }

@@ -1,4 +1,4 @@
-// The check of one container for a host written in C (document 01, "The log and the host").
+// The check of one container for a host written in C.
 ghost use mathlib.Core.Path.{_≡_};
 ghost use lib.ListN.{length};
 ghost use Rattle.host.specs.Check.{checkCode, checkRoom};

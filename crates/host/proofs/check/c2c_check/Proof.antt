@@ -1,8 +1,8 @@
--- `host::c2c_check` meets its contract.
+-- `host::check::c2c_check` meets its contract.
 use Rattle.host.proofs.CheckLaws.{room-left, done-code, refused-code, refused-small}
 use borrow.Author.Needs.{needs}
-use Rattle.host.proofs.c2c_check.Statement.{statement}
-use Rattle.host.proofs.c2c_check.Tie as tie
+use Rattle.host.proofs.check.c2c_check.Statement.{statement}
+use Rattle.host.proofs.check.c2c_check.Tie as tie
 
 fresh-requires : tie.Need-fresh-requires
 fresh-requires c κs = search needs

@@ -1,0 +1,151 @@
+-- A call of the feeder from C by its parts. Assumes nothing.
+use Prim.Native.Nat.{ℕ, _≤_, _<_}
+use mathlib.Core.Path.{_≡_, refl, sym, ap, _∙_}
+use mathlib.Core.Bool.{Bool, true, false, _&&_}
+use mathlib.Core.List.{List, [], _∷_}
+use native.Mathlib.Omega.{arith}
+use lib.ListN.{length, set}
+use lib.Dec.{eqb, leb}
+use borrow.Author.Tests.{eqb-true, eq-eqb, ne-eqb, leb-true, le-leb, lt-leb}
+use Rattle.lists.specs.Parts.{put}
+use Rattle.lists.proofs.Tests.{and-left}
+use Rattle.cause.specs.Causes.{causeNumber}
+use Rattle.cause.specs.Checks.{check, firstFault}
+use Rattle.cause.specs.declared.Cause.{Cause}
+use Rattle.cause.specs.declared.Cause.the-variants.{RoomTooSmall, InvalidState}
+use Rattle.cause.specs.declared.Verdict.{Verdict}
+use Rattle.cause.specs.declared.Verdict.the-variants.{Sound, Faulty}
+use Rattle.cause.proofs.CauseLaws.{number-most}
+use Rattle.cause.proofs.CheckLaws.{sound-pass}
+use Rattle.feeder.specs.Feeding.{feedOk, feeding, fedPart}
+use Rattle.feeder.specs.declared.found.Waiting.{Waiting}
+use Rattle.feeder.specs.declared.found.Waiting.the-variants.{Responses, Others, Neither}
+use Rattle.feeder.specs.declared.feed.Feed.{Feed}
+use Rattle.feeder.specs.declared.feed.Answer.{Answer}
+use Rattle.feeder.specs.declared.feed.Answer.the-variants.{Handed, Empty, Refused}
+use Rattle.feeder.specs.declared.feed.Step.{Step}
+use Rattle.feeder.proofs.StepCases.{part-short, refused-place, positions-low}
+use Rattle.host.specs.Feed.{feedFrom, numbersOf, PositionsFit, longestRecord, callChecks, listNumber, answerCode, Small, feedCode, feedNumbers, feedRoom}
+
+-- ---- the three numbers
+
+-- three numbers that are written one after the other
+pub three-set : (n : List ℕ) → length n ≡ 3 → (s : Feed) → set (set (set n 0 (s .response)) 1 (s .other)) 2 (s .run) ≡ numbersOf s
+three-set [] h s = absurd (omega arith)
+three-set (a ∷ []) h s = absurd (omega arith)
+three-set (a ∷ b ∷ []) h s = absurd (omega arith)
+three-set (a ∷ b ∷ c ∷ []) h s = refl
+three-set (a ∷ b ∷ c ∷ d ∷ n) h s = absurd (omega arith)
+
+-- ---- the checks of a call
+
+-- whether a feed that was loaded is valid
+pub is-ok : (f r o : ℕ) (n : List ℕ) (s : Feed) → s ≡ feedFrom n → (b : Bool) → b ≡ feedOk f r o s → feedOk f r o (feedFrom n) ≡ b
+is-ok f r o n s e b eb = ap (feedOk f r o) (sym e) ∙ sym eb
+
+module _ (f : ℕ) (n : List ℕ) (r o room : ℕ) where
+  pub call-other : (length n ≡ 3 → ⊥) → Faulty InvalidState 0 ≡ firstFault (callChecks f n r o room)
+  unfolding callChecks
+  call-other d = rw (ne-eqb (length n) 3 d)
+
+  module _ (h : length n ≡ 3) where
+    pub call-invalid : feedOk f r o (feedFrom n) ≡ false → Faulty InvalidState 0 ≡ firstFault (callChecks f n r o room)
+    unfolding callChecks
+    call-invalid e = rw (eq-eqb (length n) 3 h, e)
+
+    module _ (e : feedOk f r o (feedFrom n) ≡ true) where
+      pub call-small : room < 121 → Faulty RoomTooSmall 0 ≡ firstFault (callChecks f n r o room)
+      unfolding callChecks
+      call-small k = rw (eq-eqb (length n) 3 h, e, lt-leb 121 room k)
+
+      pub call-sound : 121 ≤ room → Sound ≡ firstFault (callChecks f n r o room)
+      unfolding callChecks
+      call-sound k = rw (eq-eqb (length n) 3 h, e, le-leb 121 room k)
+
+-- ---- the numbers of an answer
+
+list-most : (w : Waiting) → listNumber w ≤ 2
+list-most Responses = omega arith
+list-most Others = omega arith
+list-most Neither = omega arith
+
+pub handed-small : (a : Answer) (w : Waiting) (bytes x : ℕ) → a ≡ Handed w → Small a bytes → x ≡ listNumber w → (x ≤ 2) × (bytes ≤ 4096)
+handed-small a w bytes x e h ex = let s : Small (Handed w) bytes = rw e at h in let m = list-most w in (omega arith, s)
+
+module _ (a : Answer) (w : Waiting) (c : Cause) (p : ℕ) (e : a ≡ Refused w c p) where
+  pub refused-cause : (x : ℕ) → x ≡ causeNumber c → x ≤ 23
+  refused-cause x ex = let m = number-most c in omega arith
+
+  pub refused-list : (y : ℕ) → y ≡ listNumber w → y ≤ 2
+  refused-list y ey = let m = list-most w in omega arith
+
+  pub refused-low : (bytes : ℕ) → Small a bytes → p ≤ 4096
+  refused-low bytes h = rw e at h
+
+-- ---- a call
+
+-- the place of a call's fault is 0
+fault-zero : (f : ℕ) (n : List ℕ) (r o room : ℕ) (c : Cause) (p : ℕ) → firstFault (callChecks f n r o room) ≡ Faulty c p → p ≡ 0
+unfolding callChecks
+fault-zero f n r o room c p = by (eqb (length n) 3 && feedOk f r o (feedFrom n)) (leb longestRecord room)
+  where
+    by : (a b : Bool) → firstFault (check a InvalidState 0 ∷ check b RoomTooSmall 0 ∷ []) ≡ Faulty c p → p ≡ 0
+    by false b e = let z : 0 ≡ p = cc in sym z
+    by true false e = let z : 0 ≡ p = cc in sym z
+    by true true e = let z : _≡_ {A = ℕ} 0 1 = cc in absurd (omega arith)
+
+module _ (f : ℕ) (n R O room : List ℕ) (v : Verdict) (ev : v ≡ firstFault (callChecks f n (length R) (length O) (length room))) where
+  -- a refusal before the ask
+  module _ (c : Cause) (p : ℕ) (e : v ≡ Faulty c p) where
+    pub faulty-small : p ≤ 4096
+    faulty-small = let z = fault-zero f n (length R) (length O) (length room) c p (sym ev ∙ e) in omega arith
+
+    pub faulty-code : (x : ℕ) → x ≡ answerCode (Refused Neither c p) 0 → x ≡ feedCode f n R O (length room)
+    unfolding feedCode
+    faulty-code x ex = rw (← ev, e) ex
+
+    pub faulty-numbers : n ≡ feedNumbers f n R O (length room)
+    unfolding feedNumbers
+    faulty-numbers = rw (← ev, e)
+
+    pub faulty-room : room ≡ feedRoom f n R O room
+    unfolding feedRoom
+    faulty-room = rw (← ev, e)
+
+  module _ (e : v ≡ Sound) where
+    passed : (length n ≡ 3) × (121 ≤ length room)
+    unfolding callChecks
+    passed =
+        let h = sound-pass (callChecks f n (length R) (length O) (length room)) (sym ev ∙ e) in
+        (eqb-true (length n) 3 (and-left (eqb (length n) 3) (feedOk f (length R) (length O) (feedFrom n)) (h .0)), leb-true 121 (length room) (h .1 .0))
+
+    pub three : length n ≡ 3
+    three = passed .0
+
+    module _ (s : Feed) (es : s ≡ feedFrom n) (t : Step) (et : t ≡ feeding f R O s) where
+      pub next-fits : PositionsFit s → PositionsFit (t .feed)
+      next-fits h = rw et (positions-low f R O s 4_294_967_295 (omega arith) (h .0) (h .1))
+
+      pub sound-numbers : (m : List ℕ) → m ≡ numbersOf (t .feed) → m ≡ feedNumbers f n R O (length room)
+      unfolding feedNumbers
+      sound-numbers m em = em ∙ rw (← ev, e, et, es)
+
+      module _ (q : List ℕ) (eq : q ≡ fedPart f R O s) where
+        pub part-fits : length q ≤ length room
+        part-fits = let h = passed .1 in let k = part-short f R O s in rw eq (omega arith)
+
+        pub answer-small : Small (t .answer) (length q)
+        answer-small = rw (et, eq) (by (feeding f R O s .answer) refl)
+          where
+            by : (a : Answer) → feeding f R O s .answer ≡ a → Small a (length (fedPart f R O s))
+            by (Handed w) k = let h = part-short f R O s in omega arith
+            by Empty k = tt
+            by (Refused w c p) k = refused-place f R O s w c p k
+
+        pub sound-code : (x : ℕ) → x ≡ answerCode (t .answer) (length q) → x ≡ feedCode f n R O (length room)
+        unfolding feedCode
+        sound-code x ex = ex ∙ rw (← ev, e, et, eq, es)
+
+        pub sound-room : (d : List ℕ) → d ≡ put 0 q room → d ≡ feedRoom f n R O room
+        unfolding feedRoom
+        sound-room d ed = ed ∙ rw (← ev, e, eq, es)
