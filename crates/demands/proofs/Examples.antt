@@ -1,4 +1,5 @@
--- The marked examples, what lies beneath a longer message, and two orders of the same containers, by computation. Assumes nothing.
+-- The marked examples, what lies beneath a longer message, two orders of the same containers, and the longest waits in the feeder, by
+-- computation. Assumes nothing.
 use mathlib.Core.Path.{refl}
 use Rattle.record.specs.Number.{number, readNumber}
 use Rattle.record.specs.Records.{faultFrom, listFault}
@@ -10,12 +11,15 @@ use Rattle.writer.specs.Laying.{setAll, layCells, containerOf, filled, owesAfte
 use Rattle.writer.specs.Filling.{callChecks, fillFault, filling, fillBytes}
 use Rattle.ledger.specs.Pools.{capacitiesOk, allMessages, allGrants, paidTo, grantedTo, grantsIn}
 use Rattle.ledger.specs.Audit.{poolsOk, begun, finished, granted, heldChecks, roomChecks, auditChecks, row, nextLedger, auditing}
+use Rattle.feeder.specs.Due.{foundAt}
+use Rattle.feeder.specs.Feeding as feeder
 use Rattle.history.specs.Trace.{start}
 use Rattle.history.specs.Link.{direction0, direction1}
 use Rattle.history.specs.Interleaving.{SameContainers}
 use Rattle.demands.specs.LogTap.{tapOf}
 use Rattle.demands.specs.Marked.{Marked}
 use Rattle.demands.specs.Beneath.{Beneath}
+use Rattle.demands.specs.Service.{Reached}
 use Rattle.demands.specs.Interleaving.{startsBetween, startsLast, Orders}
 
 pub marked : Marked
@@ -56,3 +60,8 @@ orders = record {
     same : SameContainers (tapOf start startsBetween) (tapOf start startsLast)
     same direction0 = refl
     same direction1 = refl
+
+-- the longest waits in the feeder
+pub reached : Reached
+unfolding number readNumber foundAt feeder.callChecks feeder.feeding
+reached = record { five = refl; two = refl }

@@ -5,4 +5,5 @@ pub mod Books
 pub mod LogRefused
 pub mod LogTap
 pub mod Interleaving
+pub mod Service
 pub mod Examples

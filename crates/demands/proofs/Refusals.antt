@@ -13,6 +13,7 @@ use Rattle.reader.proofs.AnswerLaws.{reading-faulty, judging-faulty}
 use Rattle.ledger.proofs.AnswerLaws.{refused-same}
 use Rattle.writer.specs.Filling.{fillFault, filling, fillBytes}
 use Rattle.writer.proofs.AnswerLaws.{filling-faulty}
+use Rattle.feeder.proofs.StepCases.{refused-state, refused-part}
 use Rattle.demands.specs.Demand1.{Demand1}
 
 -- a value that changes only where a verdict is sound
@@ -28,4 +29,6 @@ demand1 = record {
   fill-state = λ w l n c k p e. unchanged _ _ _ k p (filling-faulty (fillFault w l n (length c)) _ k p e);
   fill-memory = λ w l n c k p e. unchanged _ _ _ k p (filling-faulty (fillFault w l n (length c)) _ k p e);
   audit-state = refused-same;
+  ask-state = refused-state;
+  ask-part = refused-part;
 }

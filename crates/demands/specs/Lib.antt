@@ -6,3 +6,4 @@ pub mod LogTap
 pub mod Marked
 pub mod Beneath
 pub mod Interleaving
+pub mod Service

@@ -1,5 +1,5 @@
 -- Asks at the edges of the rules, computed. Assumes nothing.
-use Prim.Native.Nat.{ℕ, zero, suc}
+use Prim.Native.Nat.{ℕ}
 use mathlib.Core.Path.{_≡_, refl}
 use mathlib.Core.List.{List, [], _∷_, _++_}
 use lib.ListN.{replicate}
@@ -9,7 +9,6 @@ use Rattle.feeder.specs.Due.{foundAt}
 use Rattle.feeder.specs.Feeding.{freshFeed, callChecks, feeding, fedPart}
 use Rattle.feeder.specs.declared.found.Waiting.the-variants.{Responses, Others, Neither}
 use Rattle.feeder.specs.declared.feed.Feed.{Feed}
-use Rattle.feeder.specs.declared.feed.Answer.{Answer}
 use Rattle.feeder.specs.declared.feed.Answer.the-variants.{Handed, Empty, Refused}
 
 -- the records of a Resp, a Resp2 and a ReqS, and a Resp cut short
@@ -30,21 +29,6 @@ five = aResp ++ aResp2 ++ aResp ++ aResp2 ++ aResp
 
 abbrev feedAt : ℕ → ℕ → ℕ → Feed
 feedAt first second run = record { response = first; other = second; run = run }
-
--- the answers of n asks with the same lists
-answers : ℕ → List ℕ → List ℕ → Feed → List Answer
-answers zero responses others s = []
-answers (suc n) responses others s = feeding 0 responses others s .answer ∷ answers n responses others (feeding 0 responses others s .feed)
-
--- five asks are needed: four responses, of which a Resp2 is one, go before the other list
-four-before : answers 6 five aReq freshFeed ≡ Handed Responses ∷ Handed Responses ∷ Handed Responses ∷ Handed Responses ∷ Handed Others ∷ Handed Responses ∷ []
-unfolding answers feeding callChecks foundAt readNumber
-four-before = refl
-
--- two asks are needed: after four responses the other list goes first
-other-before : answers 3 five aReq (feedAt 0 0 4) ≡ Handed Others ∷ Handed Responses ∷ Handed Responses ∷ []
-unfolding answers feeding callChecks foundAt readNumber
-other-before = refl
 
 -- a run of four does not hold up responses while the other list is empty, and such a response makes it 0
 alone : feeding 0 five [] (feedAt 0 0 4) ≡ record { feed = feedAt 11 0 0; answer = Handed Responses }

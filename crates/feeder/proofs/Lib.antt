@@ -5,5 +5,6 @@ pub mod RecordCases
 pub mod RuleLaws
 pub mod TurnLaws
 pub mod FaultlessLaws
+pub mod DroppedLaws
 pub mod ServiceLaws
 pub mod FeedEdges

@@ -1,5 +1,5 @@
 -- Sequences of asks (document 02, K9): who is served when, and what is handed out of each list.
-use Prim.Native.Nat.{ℕ, suc, _+_}
+use Prim.Native.Nat.{ℕ, suc, _+_, _-_}
 use mathlib.Core.Path.{_≡_}
 use mathlib.Core.Bool.{Bool, true, false}
 use mathlib.Core.List.{List, [], _∷_, _++_, map}
@@ -11,7 +11,7 @@ use Rattle.feeder.specs.Due.{listOf}
 use Rattle.feeder.specs.Feeding.{feeding, fedPart}
 use Rattle.feeder.specs.Rules.{Belongs, RecordAt, Valid, Short}
 use Rattle.feeder.specs.declared.found.Waiting.{Waiting}
-use Rattle.feeder.specs.declared.found.Waiting.the-variants.{Responses, Others}
+use Rattle.feeder.specs.declared.found.Waiting.the-variants.{Responses, Others, Neither}
 use Rattle.feeder.specs.declared.feed.Feed.{Feed}
 use Rattle.feeder.specs.declared.feed.Answer.{Answer}
 use Rattle.feeder.specs.declared.feed.Answer.the-variants.{Handed, Empty, Refused}
@@ -106,3 +106,19 @@ pub record Faultless (f : ℕ) (responses others : List ℕ) (s : Feed) : Type 0
   pub short : Short responses others
   pub in-responses : Rest Responses responses (s .response)
   pub in-others : Rest Others others (s .other)
+
+-- ---- bytes that were handed out are dropped, a of the response list and b of the other one
+
+abbrev pub lowered : ℕ → ℕ → Feed → Feed
+lowered a b s = record { response = s .response - a; other = s .other - b; run = s .run }
+
+-- the place of a refusal is counted in the list that is left
+abbrev pub loweredAnswer : ℕ → ℕ → Answer → Answer
+loweredAnswer a b (Handed w) = Handed w
+loweredAnswer a b Empty = Empty
+loweredAnswer a b (Refused Responses c p) = Refused Responses c (p - a)
+loweredAnswer a b (Refused Others c p) = Refused Others c (p - b)
+loweredAnswer a b (Refused Neither c p) = Refused Neither c p
+
+abbrev pub loweredStep : ℕ → ℕ → Step → Step
+loweredStep a b t = record { feed = lowered a b (t .feed); answer = loweredAnswer a b (t .answer) }

@@ -17,15 +17,15 @@ use Rattle.cause.specs.declared.Verdict.{Verdict}
 use Rattle.cause.specs.declared.Verdict.the-variants.{Sound, Faulty}
 use Rattle.cause.proofs.CauseLaws.{number-most}
 use Rattle.cause.proofs.CheckLaws.{sound-pass}
-use Rattle.feeder.specs.Feeding.{feedOk, feeding, fedPart}
+use Rattle.feeder.specs.Feeding.{feedOk, stepBy, feeding, fedPart}
 use Rattle.feeder.specs.declared.found.Waiting.{Waiting}
 use Rattle.feeder.specs.declared.found.Waiting.the-variants.{Responses, Others, Neither}
 use Rattle.feeder.specs.declared.feed.Feed.{Feed}
 use Rattle.feeder.specs.declared.feed.Answer.{Answer}
 use Rattle.feeder.specs.declared.feed.Answer.the-variants.{Handed, Empty, Refused}
 use Rattle.feeder.specs.declared.feed.Step.{Step}
-use Rattle.feeder.proofs.StepCases.{part-short, refused-place, positions-low}
-use Rattle.host.specs.Feed.{feedFrom, numbersOf, PositionsFit, longestRecord, callChecks, listNumber, answerCode, Small, feedCode, feedNumbers, feedRoom}
+use Rattle.feeder.proofs.StepCases.{part-short, refused-state, refused-part, refused-place, positions-low}
+use Rattle.host.specs.Feed.{feedFrom, numbersOf, PositionsFit, longestRecord, callChecks, listNumber, asking, answerCode, Small, feedCode, feedNumbers, feedRoom, Told}
 
 -- ---- the three numbers
 
@@ -36,6 +36,14 @@ three-set (a ∷ []) h s = absurd (omega arith)
 three-set (a ∷ b ∷ []) h s = absurd (omega arith)
 three-set (a ∷ b ∷ c ∷ []) h s = refl
 three-set (a ∷ b ∷ c ∷ d ∷ n) h s = absurd (omega arith)
+
+-- a feed of three numbers that is written again
+three-numbers : (n : List ℕ) → length n ≡ 3 → numbersOf (feedFrom n) ≡ n
+three-numbers [] h = absurd (omega arith)
+three-numbers (a ∷ []) h = absurd (omega arith)
+three-numbers (a ∷ b ∷ []) h = absurd (omega arith)
+three-numbers (a ∷ b ∷ c ∷ []) h = refl
+three-numbers (a ∷ b ∷ c ∷ d ∷ n) h = absurd (omega arith)
 
 -- ---- the checks of a call
 
@@ -149,3 +157,36 @@ module _ (f : ℕ) (n R O room : List ℕ) (v : Verdict) (ev : v ≡ firstFault 
         pub sound-room : (d : List ℕ) → d ≡ put 0 q room → d ≡ feedRoom f n R O room
         unfolding feedRoom
         sound-room d ed = ed ∙ rw (← ev, e, eq, es)
+
+-- ---- what a code tells, and that a refusal changes nothing
+
+answer-told : (a : Answer) (bytes : ℕ) → Small a bytes → Told a bytes (answerCode a bytes)
+answer-told (Handed w) bytes h = let m = list-most w in (omega arith, omega arith, omega arith)
+answer-told Empty bytes h = refl
+answer-told (Refused w c p) bytes h = let m = list-most w in let k = number-most c in (omega arith, omega arith, omega arith)
+
+module _ (f : ℕ) (n R O room : List ℕ) where
+  abbrev verdict : Verdict
+  verdict = firstFault (callChecks f n (length R) (length O) (length room))
+
+  asked-small : (v : Verdict) → v ≡ verdict → Small (stepBy v (feedFrom n) (feeding f R O (feedFrom n)) .answer) (length (fedPart f R O (feedFrom n)))
+  asked-small (Faulty c p) e = faulty-small f n R O room (Faulty c p) e c p refl
+  asked-small Sound e = answer-small f n R O room Sound e refl (feedFrom n) refl (feeding f R O (feedFrom n)) refl (fedPart f R O (feedFrom n)) refl
+
+  pub code-told : Told (asking f n R O (length room) .answer) (length (fedPart f R O (feedFrom n))) (feedCode f n R O (length room))
+  unfolding feedCode
+  code-told = answer-told (asking f n R O (length room) .answer) (length (fedPart f R O (feedFrom n))) (asked-small verdict refl)
+
+  kept : (w : Waiting) (c : Cause) (p : ℕ) → (v : Verdict) → v ≡ verdict → stepBy v (feedFrom n) (feeding f R O (feedFrom n)) .answer ≡ Refused w c p
+      → (feedNumbers f n R O (length room) ≡ n) × (feedRoom f n R O room ≡ room)
+  kept w c p (Faulty k q) ev e = (sym (faulty-numbers f n R O room (Faulty k q) ev k q refl), sym (faulty-room f n R O room (Faulty k q) ev k q refl))
+  kept w c p Sound ev e =
+      let same = refused-state f R O (feedFrom n) w c p e in
+      let none = refused-part f R O (feedFrom n) w c p e in
+      let m = sound-numbers f n R O room Sound ev refl (feedFrom n) refl (feeding f R O (feedFrom n)) refl (numbersOf (feeding f R O (feedFrom n) .feed)) refl in
+      let d = sound-room f n R O room Sound ev refl (feedFrom n) refl (feeding f R O (feedFrom n)) refl (fedPart f R O (feedFrom n)) refl (put 0 (fedPart f R O (feedFrom n)) room) refl in
+      (sym m ∙ ap numbersOf same ∙ three-numbers n (three f n R O room Sound ev refl), sym d ∙ rw none)
+
+  pub refused-untouched : (w : Waiting) (c : Cause) (p : ℕ) → asking f n R O (length room) .answer ≡ Refused w c p
+      → (feedNumbers f n R O (length room) ≡ n) × (feedRoom f n R O room ≡ room)
+  refused-untouched w c p e = kept w c p verdict refl e

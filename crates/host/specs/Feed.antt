@@ -1,5 +1,6 @@
 -- The feeder from C (document 02, K9): one call over a feed of three lent numbers, two lent lists and lent room.
-use Prim.Native.Nat.{ℕ, _+_, _*_, _≤_}
+use Prim.Native.Nat.{ℕ, _+_, _*_, _/_, _%_, _≤_}
+use mathlib.Core.Path.{_≡_}
 use mathlib.Core.Bool.{_&&_}
 use mathlib.Core.List.{List, [], _∷_}
 use lib.ListN.{length, getD}
@@ -76,3 +77,10 @@ feedNumbers f n responses others room =
 unfoldable pub feedRoom : ℕ → List ℕ → List ℕ → List ℕ → List ℕ → List ℕ
 feedRoom f n responses others room =
     whenSound (firstFault (callChecks f n (length responses) (length others) (length room))) (put 0 (fedPart f responses others (feedFrom n)) room) room
+
+-- what a code tells: its highest byte is the cause, 0 where nothing is refused, the next one the list, and the rest the record's bytes or
+-- the place
+abbrev pub Told : Answer → ℕ → ℕ → Type 0
+Told (Handed w) bytes code = (code / 16_777_216 ≡ 0) × (code / 65_536 % 256 ≡ listNumber w) × (code % 65_536 ≡ bytes)
+Told Empty bytes code = code ≡ 0
+Told (Refused w c p) bytes code = (code / 16_777_216 ≡ causeNumber c) × (code / 65_536 % 256 ≡ listNumber w) × (code % 65_536 ≡ p)
