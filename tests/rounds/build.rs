@@ -6,7 +6,7 @@ use std::fs;
 use std::path::{Path, PathBuf};
 
 /// The crates that a container is handed to, and those that they call.
-const CRATES: [&str; 8] = ["cause", "container", "message", "record", "reader", "writer", "ledger", "host"];
+const CRATES: [&str; 9] = ["cause", "container", "message", "record", "reader", "writer", "ledger", "feeder", "host"];
 
 /// Whether a line is for the prover or the linker alone.
 fn is_left_out(code: &str) -> bool {
@@ -49,7 +49,7 @@ fn begins_loop(code: &str, file: &Path) -> bool {
 /// The name of the function whose header begins on a line.
 fn function_name(code: &str) -> Option<&str> {
     let headers = ["fn ", "pub fn ", "pub(crate) fn ", "pub extern \"C\" fn "];
-    headers.iter().find_map(|start| code.strip_prefix(start))?.split('(').next()
+    headers.iter().find_map(|start| code.strip_prefix(start))?.split(['(', '<']).next()
 }
 
 /// A source file of the crate `name` as the body of a Rust module.

@@ -1,6 +1,7 @@
 //! Compares the proved code with the model on random inputs. Usage:
 //! differential [--seed N] [--long] [--data DIR] [--programs DIR] [--audit PATH]
 
+mod feeds;
 mod interleavings;
 mod logs;
 mod make;
@@ -35,6 +36,7 @@ const PAIRS: usize = 2_000;
 const BENEATH: usize = 500;
 const SMALL: [usize; 2] = [5, 11];
 const RUNS: usize = 500;
+const ASKS: usize = 20_000;
 const AUDITED: usize = 5;
 const LONGER: usize = 10;
 const CAUSES: [u32; 17] = [1, 2, 3, 4, 5, 6, 7, 8, 9, 10, 11, 12, 13, 14, 15, 16, 19];
@@ -92,6 +94,7 @@ fn main() -> ExitCode {
             compare_programs(&mut random, &mut tally, programs);
         }
     }
+    feeds::compare(&mut random, &mut tally, ASKS * options.times);
     report(&tally, options.seed, started);
     ExitCode::from(u8::from(!is_complete(&tally) || tally.differences + vectors.differences > 0))
 }
@@ -109,7 +112,8 @@ fn is_complete(tally: &Tally) -> bool {
     if tally.pairs < PAIRS {
         println!("fewer than {PAIRS} pairs of interleavings");
     }
-    missed.is_empty() && rare.is_empty() && tally.pairs >= PAIRS
+    let fed = feeds::is_complete(tally);
+    missed.is_empty() && rare.is_empty() && tally.pairs >= PAIRS && fed
 }
 
 /// Runs the vector files against the model.
@@ -117,6 +121,7 @@ fn run_vectors(data: &str) -> Outcome {
     let mut outcomes = vec![
         ("check", vectors::check_lines(&format!("{data}/check.tsv"))),
         ("write", vectors::write_lines(&format!("{data}/write.tsv"))),
+        ("feeds", vectors::feed_lines(&format!("{data}/feeds.tsv"))),
     ];
     let logs = format!("{data}/logs.tsv");
     if Path::new(&logs).exists() {
@@ -138,11 +143,13 @@ fn run_vectors(data: &str) -> Outcome {
 /// Prints the counts of the run.
 fn report(tally: &Tally, seed: u64, started: Instant) {
     tally.print_table();
-    let [containers, lists, logs] = tally.compared;
+    let [containers, lists, logs, asks] = tally.compared;
     println!(
         "packing: {} records beneath in G5, {} in G11, {} lists packed whole, {} in another order",
         tally.beneath[5], tally.beneath[11], tally.packings, tally.reordered
     );
+    let [responses, others] = tally.waits;
+    println!("feeding: {asks} asks, longest waits {others} and {responses}, {} records handed out", tally.handed);
     println!(
         "differential: seed {seed}, {containers} containers, {lists} lists, {logs} logs of {} entries, {} pairs of interleavings, {} program runs, {} differences, {} s",
         tally.entries,

@@ -9,6 +9,17 @@ const REFUSED: u64 = 1 << 32;
 
 extern "C" {
     fn c2c_check(format: u32, container: *const u8, container_len: usize, room: *mut u8, room_len: usize) -> u32;
+    fn c2c_feed(
+        format: u32,
+        feed: *mut u32,
+        feed_len: usize,
+        responses: *const u8,
+        responses_len: usize,
+        others: *const u8,
+        others_len: usize,
+        room: *mut u8,
+        room_len: usize,
+    ) -> u32;
     fn c2c_judge(format: u32, container: *const u8, len: usize) -> u32;
     fn c2c_fill(
         format: u32,
@@ -39,6 +50,24 @@ extern "C" {
 pub fn check(format: u32, container: &[u8], room: &mut [u8]) -> u32 {
     // SAFETY: pointers and lengths come from slices that live through the call.
     unsafe { c2c_check(format, container.as_ptr(), container.len(), room.as_mut_ptr(), room.len()) }
+}
+
+/// The host's ask for the next record of two lists; feed and room change in place.
+pub fn feed(format: u32, feed: &mut [u32], responses: &[u8], others: &[u8], room: &mut [u8]) -> u32 {
+    // SAFETY: pointers and lengths come from slices that live through the call and do not overlap.
+    unsafe {
+        c2c_feed(
+            format,
+            feed.as_mut_ptr(),
+            feed.len(),
+            responses.as_ptr(),
+            responses.len(),
+            others.as_ptr(),
+            others.len(),
+            room.as_mut_ptr(),
+            room.len(),
+        )
+    }
 }
 
 /// Judges one container from a fresh state.

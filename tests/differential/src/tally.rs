@@ -5,13 +5,14 @@ use std::collections::{BTreeMap, BTreeSet};
 use model::cause::Refusal;
 use model::layout::GRANULES;
 
+const INPUTS: usize = 4;
 const SHOWN: usize = 10;
 const MOST_PLACES: usize = 14;
 
 /// How often a cause was met, and where.
 #[derive(Default)]
 struct Met {
-    times: [usize; 3],
+    times: [usize; INPUTS],
     places: BTreeSet<u64>,
 }
 
@@ -21,13 +22,14 @@ pub enum In {
     Container = 0,
     List = 1,
     Log = 2,
+    Ask = 3,
 }
 
 /// All counts of a run.
 #[derive(Default)]
 pub struct Tally {
-    pub compared: [usize; 3],
-    pub accepted: [usize; 3],
+    pub compared: [usize; INPUTS],
+    pub accepted: [usize; INPUTS],
     pub entries: usize,
     /// The records that lie beneath longer messages, by granule.
     pub beneath: [usize; GRANULES],
@@ -35,6 +37,10 @@ pub struct Tally {
     /// The lists that come out in another order.
     pub reordered: usize,
     pub pairs: usize,
+    /// The records that asks hand out.
+    pub handed: usize,
+    /// The most asks until the head of the response list, and of the other one, is served.
+    pub waits: [usize; 2],
     pub runs: usize,
     pub differences: usize,
     causes: BTreeMap<u32, Met>,
@@ -67,13 +73,19 @@ impl Tally {
         self.causes.contains_key(&cause)
     }
 
+    /// Whether a cause was met in inputs of one kind.
+    pub fn has_met_in(&self, place: In, cause: u32) -> bool {
+        self.causes.get(&cause).is_some_and(|met| met.times[place as usize] > 0)
+    }
+
     /// Prints the table of causes met.
     pub fn print_table(&self) {
-        println!("{:>5} {:>10} {:>8} {:>8}  places", "cause", "containers", "lists", "logs");
-        println!("{:>5} {:>10} {:>8} {:>8}", "none", self.accepted[0], self.accepted[1], self.accepted[2]);
+        println!("{:>5} {:>10} {:>8} {:>8} {:>8}  places", "cause", "containers", "lists", "logs", "asks");
+        let [containers, lists, logs, asks] = self.accepted;
+        println!("{:>5} {containers:>10} {lists:>8} {logs:>8} {asks:>8}", "none");
         for (cause, met) in &self.causes {
-            let [containers, lists, logs] = met.times;
-            println!("{cause:>5} {containers:>10} {lists:>8} {logs:>8}  {}", places(&met.places));
+            let [containers, lists, logs, asks] = met.times;
+            println!("{cause:>5} {containers:>10} {lists:>8} {logs:>8} {asks:>8}  {}", places(&met.places));
         }
     }
 }

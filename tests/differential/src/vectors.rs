@@ -2,6 +2,8 @@
 
 use std::fs;
 
+use model::cause::refusal;
+use model::feeder::{ask, Feed, Refused, Waiting};
 use model::layout::{Grant, Part, CONTAINER};
 use model::log::verdict;
 use model::reader::check;
@@ -65,10 +67,23 @@ pub fn write_lines(path: &str) -> Outcome {
     })
 }
 
+/// Vectors of the feeder: format, responses, others, positions, run, list, cause, place, record, next positions, next run.
+pub fn feed_lines(path: &str) -> Outcome {
+    each_line(path, |fields| {
+        let (responses, others, record) = (long_bytes(fields[1])?, long_bytes(fields[2])?, long_bytes(fields[8])?);
+        let (now, next) = (feed(fields[3], fields[4]), feed(fields[9], fields[10]));
+        let (list, cause) = (waiting(fields[5]), number(fields[6]) as u32);
+        Some(match ask(number(fields[0]) as u32, &now, &responses, &others) {
+            Err(refused) => refused == Refused { list, refusal: refusal(cause, number(fields[7])) } && now == next,
+            Ok(handed) => cause == 0 && (handed.list, handed.record, handed.feed) == (list, &record[..], next),
+        })
+    })
+}
+
 /// Vectors of whole logs: name, line, bytes.
 pub fn log_lines(path: &str) -> Outcome {
     each_line(path, |fields| {
-        let log = log_bytes(fields.get(2).copied().unwrap_or(""))?;
+        let log = long_bytes(fields.get(2).copied().unwrap_or(""))?;
         let answer = verdict(&log).to_string();
         if answer != fields[1] {
             println!("{}: the model says {answer}, wanted {}", fields[0], fields[1]);
@@ -99,8 +114,24 @@ fn grant(text: &str) -> Grant {
     Grant { shared: n[0] != 0, plane: n[1], req: n[2], rsp: n[3], snp: n[4], dat: n[5] }
 }
 
-/// The bytes of a log's field, where `(n)` stands for n zero bytes, unless it is very large.
-fn log_bytes(text: &str) -> Option<Vec<u8>> {
+/// A feed of two positions and a run.
+fn feed(positions: &str, run: &str) -> Feed {
+    let n: Vec<usize> = positions.split(',').map(number).collect();
+    Feed { response: n[0], other: n[1], run: number(run) as u32 }
+}
+
+/// The list of a number, `-` being neither.
+fn waiting(text: &str) -> Option<Waiting> {
+    match text {
+        "-" => None,
+        "0" => Some(Waiting::Responses),
+        "1" => Some(Waiting::Others),
+        _ => panic!("bad list {text}"),
+    }
+}
+
+/// The bytes of a field where `(n)` stands for n zero bytes, unless they are very many.
+fn long_bytes(text: &str) -> Option<Vec<u8>> {
     let mut out = Vec::new();
     for (n, piece) in text.split(['(', ')']).enumerate() {
         if n % 2 == 0 {

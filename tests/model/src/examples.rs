@@ -1,6 +1,7 @@
-//! Document 01's examples, M1 to M10 and those that are run only, and records beneath longer messages.
+//! Document 01's examples, M1 to M10 and those that are run only, records beneath longer messages, and asks of the feeder.
 
 use crate::cause::{refusal, Refusal};
+use crate::feeder::{ask, feed, Feed, Refused, Waiting};
 use crate::layout::{granule_start, Format, Grant, Header, Part, CONTAINER, GRANULES};
 use crate::ledger::{Ledger, Receiver, POOLS, SHARED_DAT};
 use crate::list::{read_number, write_list, write_number};
@@ -50,10 +51,23 @@ fn read(format: Format, container: &[u8]) -> Result<Reading, Refusal> {
     judge(format, &Part::none(), container)
 }
 
+/// A list of messages of kinds.
+fn list_of(kinds: &[Kind]) -> Vec<u8> {
+    write_list(&kinds.iter().map(|&kind| message(kind)).collect::<Vec<_>>())
+}
+
 /// Fills a container from messages of kinds, with a tail of some bytes and no grant.
 fn fill_kinds(format: u32, tail: usize, kinds: &[Kind]) -> Filled {
-    let list = write_list(&kinds.iter().map(|&kind| message(kind)).collect::<Vec<_>>());
-    fill(format, &Part::of(&[1; 100][..tail]), Grant::default(), &list, CONTAINER).unwrap()
+    fill(format, &Part::of(&[1; 100][..tail]), Grant::default(), &list_of(kinds), CONTAINER).unwrap()
+}
+
+/// The letter of a list that is served.
+fn letter(list: Option<Waiting>) -> char {
+    match list {
+        None => '-',
+        Some(Waiting::Responses) => 'R',
+        Some(Waiting::Others) => 'O',
+    }
 }
 
 /// The granules at which messages start in a container.
@@ -251,6 +265,56 @@ fn orders_of_messages() {
     }
     assert!(!is_returned(Format::Y, &messages, &returned[1..]));
     assert!(!is_returned(Format::Y, &messages, &[&returned[..], &returned[..1]].concat()));
+}
+
+#[test]
+fn responses_go_first() {
+    let responses = list_of(&[Kind::Resp, Kind::Resp2, Kind::Resp, Kind::Resp2, Kind::Resp, Kind::Resp]);
+    let others = list_of(&[Kind::WrReqDataL, Kind::ReqS, Kind::Activation]);
+    let mut feed = Feed::default();
+    for (wanted, run) in "RRRRORROO-".chars().zip([1, 2, 3, 4, 0, 1, 2, 0, 0, 0]) {
+        let handed = ask(0, &feed, &responses, &others).unwrap();
+        assert_eq!((letter(handed.list), handed.feed.run), (wanted, run));
+        feed = handed.feed;
+    }
+}
+
+#[test]
+fn runs_count_only_while_others_wait() {
+    let (responses, others) = (list_of(&[Kind::Resp, Kind::Resp2]), list_of(&[Kind::ReqL]));
+    let full = Feed { run: 4, ..Feed::default() };
+    let alone = ask(1, &full, &responses, &[]).unwrap();
+    assert_eq!((alone.list, alone.record), (Some(Waiting::Responses), &responses[..11]));
+    assert_eq!(alone.feed, Feed { response: 11, other: 0, run: 0 });
+    let beside = ask(1, &full, &responses, &others).unwrap();
+    assert_eq!((beside.list, beside.record), (Some(Waiting::Others), &others[..]));
+    assert_eq!(beside.feed, Feed { response: 0, other: 41, run: 0 });
+}
+
+#[test]
+fn records_that_are_not_due() {
+    let (responses, cut) = (list_of(&[Kind::Resp, Kind::ReqS]), &list_of(&[Kind::ReqL])[..40]);
+    let first = ask(0, &Feed { run: 3, ..Feed::default() }, &responses, cut).unwrap();
+    assert_eq!((first.record, first.feed), (&responses[..11], Feed { response: 11, other: 0, run: 4 }));
+    let broken = Refused { list: Some(Waiting::Others), refusal: refusal(17, 0) };
+    assert_eq!(ask(0, &first.feed, &responses, cut), Err(broken));
+    let misplaced = Refused { list: Some(Waiting::Responses), refusal: refusal(17, 11) };
+    assert_eq!(ask(0, &Feed { run: 3, ..first.feed }, &responses, cut), Err(misplaced));
+}
+
+#[test]
+fn orders_of_causes_in_asks() {
+    let (mut numbers, mut room) = ([0, 0, 5], [0xEE; 121]);
+    assert_eq!(feed(0, &mut numbers[..2], &[], &[], &mut room), 19 << 24);
+    assert_eq!(feed(0, &mut numbers, &[0; 5000], &[], &mut room[1..]), 19 << 24);
+    numbers[2] = 4;
+    assert_eq!(feed(2, &mut numbers, &[0; 5000], &[], &mut room[1..]), 19 << 24);
+    assert_eq!(feed(0, &mut numbers, &[0; 5000], &[], &mut room[1..]), 2 << 24);
+    assert_eq!(feed(0, &mut numbers, &[0; 5], &[0; 5000], &mut room), 18 << 24);
+    assert_eq!(feed(0, &mut numbers, &[0; 5], &[0; 5], &mut room), (17 << 24) + (2 << 16));
+    assert_eq!((numbers, room), ([0, 0, 4], [0xEE; 121]));
+    assert_eq!(feed(0, &mut numbers, &[], &[], &mut room), 0);
+    assert_eq!((numbers, room), ([0, 0, 0], [0xEE; 121]));
 }
 
 #[test]

@@ -1,6 +1,7 @@
 //! The bench rules in plain Rust, written apart from the proved code to compare with it.
 
 pub mod cause;
+pub mod feeder;
 pub mod layout;
 pub mod ledger;
 pub mod list;

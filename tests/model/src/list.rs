@@ -51,7 +51,7 @@ pub struct Record {
 }
 
 /// The message of the record at the front and the record's length, unless it is broken or wrong.
-fn read_record(bytes: &[u8]) -> Option<(&[u8], usize)> {
+pub fn read_record(bytes: &[u8]) -> Option<(&[u8], usize)> {
     let (size, start) = read_number(bytes)?;
     let end = start.checked_add(size as usize)?;
     let message = bytes.get(start..end)?;

@@ -110,6 +110,11 @@ impl Kind {
         self.code().0 == 10
     }
 
+    /// Whether the message is a response.
+    pub fn is_response(self) -> bool {
+        matches!(self, Kind::Resp | Kind::Resp2)
+    }
+
     /// Whether the message pays a REQ and a DAT.
     pub fn is_push(self) -> bool {
         matches!(self, Kind::WrReqDataS | Kind::WrReqDataL)
