@@ -1,4 +1,4 @@
-/* The judging of a container and the audit, written from document 01 in plain C. */
+/* The judging of a container, the audit and the feeder, written from documents 01 and 02 in plain C. */
 #include <string.h>
 
 #include "layout.h"
@@ -401,4 +401,53 @@ struct plain_run plain_run_each(const uint32_t numbers[NUMBERS], const uint8_t *
         run.count += run.cause == 0;
     }
     return run;
+}
+
+/* The number at the front of a list and its bytes, 0 bytes if it is broken. */
+static size_t read_number(const uint8_t *list, size_t len, uint64_t *value) {
+    *value = 0;
+    for (size_t i = 0; i < len && i < 5; i++) {
+        *value += (uint64_t)(list[i] % 128) << (7 * i);
+        if (list[i] < 128)
+            return (i > 0 && list[i] == 0) || *value > UINT32_MAX ? 0 : i + 1;
+    }
+    return 0;
+}
+
+/* The bytes of the record at the front of a list, 0 if it is broken or, by `responses`, in the wrong list. */
+static size_t measure_record(const uint8_t *list, size_t len, int responses) {
+    uint64_t size;
+    size_t used = read_number(list, len, &size);
+    if (used == 0 || size < 2 || size > len - used)
+        return 0;
+    const uint8_t *m = list + used;
+    unsigned type = m[0] % 16, op = m[1];
+    if (message_size(type, op) != size || !head_ok(type, op, m))
+        return 0;
+    return (type == 3 || type == 4) == responses ? used + size : 0;
+}
+
+uint32_t plain_feed(uint32_t format, uint32_t *feed, size_t feed_len, const uint8_t *responses, size_t responses_len,
+                    const uint8_t *others, size_t others_len, uint8_t *room, size_t room_len) {
+    enum { CAUSE = 16777216, WAITING = 65536, LIST = 4096, RUN = 4, RECORD = 121 };
+    if (feed_len != 3 || format > 1 || feed[0] > responses_len || feed[1] > others_len || feed[2] > RUN)
+        return 19 * CAUSE;
+    if (room_len < RECORD)
+        return 2 * CAUSE;
+    if (responses_len > LIST || others_len > LIST)
+        return 18 * CAUSE;
+    int first = feed[0] < responses_len, second = feed[1] < others_len, due = second && (!first || feed[2] == RUN);
+    uint32_t run = feed[2];
+    feed[2] = first || second ? run : 0;
+    if (!first && !second)
+        return 0;
+    const uint8_t *record = due ? others + feed[1] : responses + feed[0];
+    size_t size = measure_record(record, due ? others_len - feed[1] : responses_len - feed[0], !due);
+    uint32_t list = due ? 2 * WAITING : WAITING;
+    if (size == 0)
+        return 17 * CAUSE + list + feed[due];
+    memcpy(room, record, size);
+    feed[due] += (uint32_t)size;
+    feed[2] = !due && second ? run + 1 : 0;
+    return list + (uint32_t)size;
 }

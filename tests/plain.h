@@ -1,4 +1,4 @@
-/* A straightforward C version of the judging of a container and of the audit, to compare with. */
+/* A straightforward C version of the judging of a container, of the audit and of the feeder, to compare with. */
 #ifndef PLAIN_H
 #define PLAIN_H
 
@@ -62,5 +62,9 @@ unsigned plain_charges(const uint8_t *message, unsigned pools[2]);
 
 /* 0, or the cause 14 of a well-headed message as cause * 65,536 + pool. */
 uint32_t plain_payable(const struct plain_receiver *, const uint8_t *message);
+
+/* The ask of c2c_feed. */
+uint32_t plain_feed(uint32_t format, uint32_t *feed, size_t feed_len, const uint8_t *responses, size_t responses_len,
+                    const uint8_t *others, size_t others_len, uint8_t *room, size_t room_len);
 
 #endif

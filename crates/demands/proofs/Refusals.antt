@@ -13,7 +13,7 @@ use Rattle.reader.proofs.AnswerLaws.{reading-faulty, judging-faulty}
 use Rattle.ledger.proofs.AnswerLaws.{refused-same}
 use Rattle.writer.specs.Filling.{fillFault, filling, fillBytes}
 use Rattle.writer.proofs.AnswerLaws.{filling-faulty}
-use Rattle.feeder.proofs.StepCases.{refused-state, refused-part}
+use Rattle.feeder.proofs.StepLaws.{refused-state, refused-part}
 use Rattle.demands.specs.Demand1.{Demand1}
 
 -- a value that changes only where a verdict is sound

@@ -1,6 +1,6 @@
 -- The feeder keeps its promises. Assumes nothing.
 use Rattle.feeder.proofs.BelongLaws.{responses-pay}
-use Rattle.feeder.proofs.StepCases.{part-none, part-between}
+use Rattle.feeder.proofs.StepLaws.{part-none, part-between}
 use Rattle.feeder.proofs.RuleLaws.{follows, only}
 use Rattle.feeder.proofs.FaultlessLaws.{never-refused}
 use Rattle.feeder.proofs.DroppedLaws.{dropped}

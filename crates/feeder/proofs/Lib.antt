@@ -1,6 +1,7 @@
 pub mod BelongLaws
 pub mod FoundLaws
 pub mod StepCases
+pub mod StepLaws
 pub mod RecordCases
 pub mod RuleLaws
 pub mod TurnLaws

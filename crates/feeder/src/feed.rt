@@ -88,7 +88,7 @@ impl Feed {
         self.run <= LONGEST_RUN
     }
 
-    // State and lengths: causes 19 and 18.
+    // The verdict on state and lengths: causes 19 and 18.
     fn check_call(self, format: u32, responses: usize, others: usize) -> Verdict
         ensures { λ r. ⌜ r ≡ firstFault (callChecks format responses others self) ⌝ }
     {
@@ -148,7 +148,7 @@ impl Feed {
         self.run + 1
     }
 
-    // The response list is due.
+    // The step where the response list is due, by what stands at its position.
     fn hand_response(self, found: Found, others: usize) -> Step
         requires { ⌜ self .run ≤ 4 ⌝ }
         ensures { λ r. ⌜ r ≡ responseStep others self found ⌝ }
@@ -174,7 +174,7 @@ impl Feed {
         }
     }
 
-    // The other list is due.
+    // The step where the other list is due, by what stands at its position.
     fn hand_other(self, found: Found) -> Step
         ensures { λ r. ⌜ r ≡ otherStep self found ⌝ }
     {
@@ -193,7 +193,7 @@ impl Feed {
         }
     }
 
-    // Both lists are empty.
+    // The step where both lists are empty.
     fn hand_nothing(self) -> Step
         ensures { λ r. ⌜ r ≡ emptyStep self ⌝ }
     {

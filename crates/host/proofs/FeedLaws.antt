@@ -1,14 +1,16 @@
 -- A call of the feeder from C by its parts. Assumes nothing.
-use Prim.Native.Nat.{ℕ, _≤_, _<_}
+use Prim.Native.Nat.{ℕ, _+_, _-_, _≤_, _<_}
 use mathlib.Core.Path.{_≡_, refl, sym, ap, _∙_}
 use mathlib.Core.Bool.{Bool, true, false, _&&_}
-use mathlib.Core.List.{List, [], _∷_}
+use mathlib.Core.List.{List, [], _∷_, append-nil}
+use mathlib.Core.Logic.{⊎-elim}
 use native.Mathlib.Omega.{arith}
 use lib.ListN.{length, set}
 use lib.Dec.{eqb, leb}
 use borrow.Author.Tests.{eqb-true, eq-eqb, ne-eqb, leb-true, le-leb, lt-leb}
-use Rattle.lists.specs.Parts.{put}
-use Rattle.lists.proofs.Tests.{and-left}
+use Rattle.lists.specs.Parts.{part, put}
+use Rattle.lists.proofs.PartLaws.{length-part, length-put}
+use Rattle.lists.proofs.Tests.{and-left, and-right}
 use Rattle.cause.specs.Causes.{causeNumber}
 use Rattle.cause.specs.Checks.{check, firstFault}
 use Rattle.cause.specs.declared.Cause.{Cause}
@@ -24,7 +26,8 @@ use Rattle.feeder.specs.declared.feed.Feed.{Feed}
 use Rattle.feeder.specs.declared.feed.Answer.{Answer}
 use Rattle.feeder.specs.declared.feed.Answer.the-variants.{Handed, Empty, Refused}
 use Rattle.feeder.specs.declared.feed.Step.{Step}
-use Rattle.feeder.proofs.StepCases.{part-short, refused-state, refused-part, refused-place, positions-low}
+use Rattle.feeder.proofs.StepCases.{feed-valid}
+use Rattle.feeder.proofs.StepLaws.{part-short, refused-state, refused-part, refused-place, positions-low, Moves, moves-long, none-over, step-moves}
 use Rattle.host.specs.Feed.{feedFrom, numbersOf, PositionsFit, longestRecord, callChecks, listNumber, asking, answerCode, Small, feedCode, feedNumbers, feedRoom, Told}
 
 -- ---- the three numbers
@@ -121,42 +124,80 @@ module _ (f : ℕ) (n R O room : List ℕ) (v : Verdict) (ev : v ≡ firstFault 
     faulty-room = rw (← ev, e)
 
   module _ (e : v ≡ Sound) where
-    passed : (length n ≡ 3) × (121 ≤ length room)
+    passes : (length n ≡ 3) × (feedOk f (length R) (length O) (feedFrom n) ≡ true) × (121 ≤ length room)
     unfolding callChecks
-    passed =
-        let h = sound-pass (callChecks f n (length R) (length O) (length room)) (sym ev ∙ e) in
-        (eqb-true (length n) 3 (and-left (eqb (length n) 3) (feedOk f (length R) (length O) (feedFrom n)) (h .0)), leb-true 121 (length room) (h .1 .0))
+    passes =
+        let h = sound-pass (callChecks f n (length R) (length O) (length room)) (sym ev ∙ e) in (
+          eqb-true (length n) 3 (and-left (eqb (length n) 3) (feedOk f (length R) (length O) (feedFrom n)) (h .0)),
+          and-right (eqb (length n) 3) (feedOk f (length R) (length O) (feedFrom n)) (h .0),
+          leb-true 121 (length room) (h .1 .0),
+        )
 
     pub three : length n ≡ 3
-    three = passed .0
+    three = passes .0
 
     module _ (s : Feed) (es : s ≡ feedFrom n) (t : Step) (et : t ≡ feeding f R O s) where
       pub next-fits : PositionsFit s → PositionsFit (t .feed)
       next-fits h = rw et (positions-low f R O s 4_294_967_295 (omega arith) (h .0) (h .1))
 
+      pub moves : Moves R O s (t .feed) (fedPart f R O s)
+      moves = rw et (step-moves f R O s (feed-valid f R O s (rw es (passes .1))))
+
+      pub moved-long : (t .feed .response - s .response) + (t .feed .other - s .other) ≡ length (fedPart f R O s)
+      moved-long = moves-long R O s (t .feed) (fedPart f R O s) moves
+
+      -- what each list moves over fits in the room
+      pub moved-fits : (d : ℕ) → d ≡ length room → (t .feed .response - s .response ≤ d) × (t .feed .other - s .other ≤ d)
+      moved-fits d ed = let a = moved-long in let b = part-short f R O s in let c = passes .2 in (omega arith, omega arith)
+
+      -- the first copy keeps the room's length
+      pub copied-long : (d : List ℕ) → d ≡ put 0 (part (s .response) (t .feed .response - s .response) R) room → length d ≡ length room
+      copied-long d ed =
+          let m = moves in
+          let h = m .forward in
+          let k = m .within in
+          let fits = moved-fits (length room) refl .0 in
+          let a = length-part (s .response) (t .feed .response - s .response) R (omega arith) in
+          ap length ed ∙ length-put 0 (part (s .response) (t .feed .response - s .response) R) room (omega arith)
+
+      pub answer-small : (x : ℕ) → x ≡ length (fedPart f R O s) → Small (t .answer) x
+      answer-small x ex = rw (et, ex) (by (feeding f R O s .answer) refl)
+        where
+          by : (a : Answer) → feeding f R O s .answer ≡ a → Small a (length (fedPart f R O s))
+          by (Handed w) k = let h = part-short f R O s in omega arith
+          by Empty k = tt
+          by (Refused w c p) k = refused-place f R O s w c p k
+
+      pub sound-code : (x y : ℕ) → x ≡ length (fedPart f R O s) → y ≡ answerCode (t .answer) x → y ≡ feedCode f n R O (length room)
+      unfolding feedCode
+      sound-code x y ex ey = ey ∙ rw (← ev, e, et, ex, es)
+
       pub sound-numbers : (m : List ℕ) → m ≡ numbersOf (t .feed) → m ≡ feedNumbers f n R O (length room)
       unfolding feedNumbers
       sound-numbers m em = em ∙ rw (← ev, e, et, es)
 
-      module _ (q : List ℕ) (eq : q ≡ fedPart f R O s) where
-        pub part-fits : length q ≤ length room
-        part-fits = let h = passed .1 in let k = part-short f R O s in rw eq (omega arith)
+      pub sound-room : (d : List ℕ) → d ≡ put 0 (fedPart f R O s) room → d ≡ feedRoom f n R O room
+      unfolding feedRoom
+      sound-room d ed = ed ∙ rw (← ev, e, es)
 
-        pub answer-small : Small (t .answer) (length q)
-        answer-small = rw (et, eq) (by (feeding f R O s .answer) refl)
-          where
-            by : (a : Answer) → feeding f R O s .answer ≡ a → Small a (length (fedPart f R O s))
-            by (Handed w) k = let h = part-short f R O s in omega arith
-            by Empty k = tt
-            by (Refused w c p) k = refused-place f R O s w c p k
+-- what two lists moved over, of which at most one has moved, copied one after the other
+pub copied-both : (R O : List ℕ) (s e : Feed) (bytes : List ℕ) → Moves R O s e bytes → (room c d : List ℕ)
+    → c ≡ put 0 (part (s .response) (e .response - s .response) R) room → d ≡ put 0 (part (s .other) (e .other - s .other) O) c → d ≡ put 0 bytes room
+copied-both R O s e bytes m room c d ec ed = ⊎-elim responses-stay others-stay (m .one)
+  where
+    responses-stay : e .response ≡ s .response → d ≡ put 0 bytes room
+    responses-stay q =
+        let none : part (s .response) (e .response - s .response) R ≡ [] = rw q (none-over (s .response) R) in
+        let same : c ≡ room = ec ∙ rw none in
+        let over : bytes ≡ part (s .other) (e .other - s .other) O = m .over ∙ rw none in
+        rw over (rw same at ed)
 
-        pub sound-code : (x : ℕ) → x ≡ answerCode (t .answer) (length q) → x ≡ feedCode f n R O (length room)
-        unfolding feedCode
-        sound-code x ex = ex ∙ rw (← ev, e, et, eq, es)
-
-        pub sound-room : (d : List ℕ) → d ≡ put 0 q room → d ≡ feedRoom f n R O room
-        unfolding feedRoom
-        sound-room d ed = ed ∙ rw (← ev, e, eq, es)
+    others-stay : e .other ≡ s .other → d ≡ put 0 bytes room
+    others-stay q =
+        let none : part (s .other) (e .other - s .other) O ≡ [] = rw q (none-over (s .other) O) in
+        let same : d ≡ c = ed ∙ rw none in
+        let over : bytes ≡ part (s .response) (e .response - s .response) R = m .over ∙ rw none (append-nil (part (s .response) (e .response - s .response) R)) in
+        rw over (same ∙ ec)
 
 -- ---- what a code tells, and that a refusal changes nothing
 
@@ -171,7 +212,7 @@ module _ (f : ℕ) (n R O room : List ℕ) where
 
   asked-small : (v : Verdict) → v ≡ verdict → Small (stepBy v (feedFrom n) (feeding f R O (feedFrom n)) .answer) (length (fedPart f R O (feedFrom n)))
   asked-small (Faulty c p) e = faulty-small f n R O room (Faulty c p) e c p refl
-  asked-small Sound e = answer-small f n R O room Sound e refl (feedFrom n) refl (feeding f R O (feedFrom n)) refl (fedPart f R O (feedFrom n)) refl
+  asked-small Sound e = answer-small f n R O room Sound e refl (feedFrom n) refl (feeding f R O (feedFrom n)) refl (length (fedPart f R O (feedFrom n))) refl
 
   pub code-told : Told (asking f n R O (length room) .answer) (length (fedPart f R O (feedFrom n))) (feedCode f n R O (length room))
   unfolding feedCode
@@ -184,7 +225,7 @@ module _ (f : ℕ) (n R O room : List ℕ) where
       let same = refused-state f R O (feedFrom n) w c p e in
       let none = refused-part f R O (feedFrom n) w c p e in
       let m = sound-numbers f n R O room Sound ev refl (feedFrom n) refl (feeding f R O (feedFrom n)) refl (numbersOf (feeding f R O (feedFrom n) .feed)) refl in
-      let d = sound-room f n R O room Sound ev refl (feedFrom n) refl (feeding f R O (feedFrom n)) refl (fedPart f R O (feedFrom n)) refl (put 0 (fedPart f R O (feedFrom n)) room) refl in
+      let d = sound-room f n R O room Sound ev refl (feedFrom n) refl (feeding f R O (feedFrom n)) refl (put 0 (fedPart f R O (feedFrom n)) room) refl in
       (sym m ∙ ap numbersOf same ∙ three-numbers n (three f n R O room Sound ev refl), sym d ∙ rw none)
 
   pub refused-untouched : (w : Waiting) (c : Cause) (p : ℕ) → asking f n R O (length room) .answer ≡ Refused w c p

@@ -1,8 +1,8 @@
 // The feeder for a host written in C: a feed of three lent numbers, and the record copied to lent room.
 ghost use mathlib.Core.Path.{_≡_};
-ghost use Prim.Native.Nat.{_≤_};
+ghost use Prim.Native.Nat.{_-_, _≤_};
 ghost use lib.ListN.{length};
-ghost use Rattle.lists.specs.Parts.{put};
+ghost use Rattle.lists.specs.Parts.{part, put};
 ghost use Rattle.cause.specs.Checks.{firstFault};
 ghost use Rattle.host.specs.Feed.{feedFrom, numbersOf, PositionsFit, listNumber, answerCode, Small, callChecks, feedCode, feedNumbers, feedRoom};
 use cause::Cause;
@@ -47,19 +47,19 @@ fn store_feed(numbers: &mut [u32], feed: Feed)
     numbers[2] = feed.run;
 }
 
-// Copies a part to the front of lent room.
-fn copy_front(room: &mut [u8], part: &[u8])
-    requires { ⌜ length (now part) ≤ length (now room) ⌝ }
-    ensures { λ _. ⌜ now (room .exit) ≡ put 0 (now (part .entry)) (now (room .entry)) ⌝ }
+// Copies the bytes of a list from one position to another to the front of lent room.
+fn copy_moved(room: &mut [u8], list: &[u8], from: usize, to: usize)
+    requires { ⌜ (from ≤ to) × (to ≤ length (now list)) × (to - from ≤ length (now room)) ⌝ }
+    ensures { λ _. ⌜ now (room .exit) ≡ put 0 (part from (to - from) (now (list .entry))) (now (room .entry)) ⌝ }
 {
     let mut i = 0;
-    while i < part.len() {
-        room[i] = part[i];
+    while i < to - from {
+        room[i] = list[from + i];
         i += 1;
     }
 }
 
-// State and room of a call: causes 19 and 2.
+// The verdict on state and room of a call: causes 19 and 2.
 fn check_call(format: u32, numbers: &[u32], responses: usize, others: usize, room: usize) -> Verdict
     ensures { λ r. ⌜ r ≡ firstFault (callChecks format (now (numbers .entry)) responses others room) ⌝ }
 {
@@ -100,13 +100,14 @@ fn encode_answer(answer: Answer, bytes: usize) -> u32
     }
 }
 
-// Asks for the next record of two waiting lists: cause · 16,777,216 + list · 65,536 + the record's bytes or the place.
+// Asks for the next record of two waiting lists: cause · 16,777,216 + list · 65,536 + the record's bytes or the place. At most one of the
+// lists moves, and what it moves over is the record.
 #[no_mangle]
-pub extern "C" fn c2c_feed<'a>(
+pub extern "C" fn c2c_feed(
     format: u32,
     feed: &mut [u32],
-    responses: &'a [u8],
-    others: &'a [u8],
+    responses: &[u8],
+    others: &[u8],
     room: &mut [u8],
 ) -> u32
     ensures code { λ r. ⌜ r ≡ feedCode format (now (feed .entry)) (now (responses .entry)) (now (others .entry)) (length (now (room .entry))) ⌝ }
@@ -124,10 +125,13 @@ pub extern "C" fn c2c_feed<'a>(
     }
     let asked = load_feed(feed);
     let step = asked.next_step(format, responses, others);
-    let part = asked.next_record(format, responses, others);
-    copy_front(room, part);
     let next = step.feed;
+    copy_moved(room, responses, asked.response, next.response);
+    copy_moved(room, others, asked.other, next.other);
     store_feed(feed, next);
     let answer = step.answer;
-    encode_answer(answer, part.len())
+    encode_answer(
+        answer,
+        (next.response - asked.response) + (next.other - asked.other),
+    )
 }
