@@ -1,10 +1,16 @@
-/* Runs every line of a vector file through c2c_feed, and some calls that no line holds, and compares code, feed and every byte of the
-   room. */
+/* Runs every line of a vector file through c2c_feed, and some calls that no line holds, and compares code, feed, every byte of the room and
+   the part that the feeder hands out. */
 #include <stdio.h>
 #include <stdlib.h>
 #include <string.h>
 
 #include "../include/c2c.h"
+
+/* The bytes of the part that an ask hands out, and byte i of it. */
+size_t c2c_part_length(uint32_t format, size_t response, size_t other, uint32_t run, const uint8_t *responses, size_t responses_len,
+                       const uint8_t *others, size_t others_len);
+uint8_t c2c_part_byte(size_t i, uint32_t format, size_t response, size_t other, uint32_t run, const uint8_t *responses,
+                      size_t responses_len, const uint8_t *others, size_t others_len);
 
 enum { LINE = 32768, LIST = 8192, FIELDS = 11, NUMBERS = 3, FILLER = 0xEE };
 
@@ -97,12 +103,24 @@ static int holds(const uint8_t *room, const uint8_t *record, size_t record_len) 
     return 1;
 }
 
+/* Whether the part that an ask hands out is a record. */
+static int is_handed(const struct vector *v, const uint8_t *record, size_t record_len) {
+    const uint32_t *f = v->feed;
+    if (c2c_part_length(v->format, f[0], f[1], f[2], v->responses, v->responses_len, v->others, v->others_len) != record_len)
+        return 0;
+    for (size_t i = 0; i < record_len; i++)
+        if (c2c_part_byte(i, v->format, f[0], f[1], f[2], v->responses, v->responses_len, v->others, v->others_len) != record[i])
+            return 0;
+    return 1;
+}
+
 /* Runs a vector; answers whether all is as it is to be. */
 static int run(struct vector *v, const char *name, unsigned number) {
     uint8_t room[ROOM];
     memset(room, FILLER, ROOM);
+    int handed = is_handed(v, v->record, v->record_len);
     uint32_t code = c2c_feed(v->format, v->feed, v->feed_len, v->responses, v->responses_len, v->others, v->others_len, room, v->room_len);
-    if (code == v->code && memcmp(v->feed, v->feed_wanted, sizeof v->feed) == 0 && holds(room, v->record, v->record_len))
+    if (code == v->code && memcmp(v->feed, v->feed_wanted, sizeof v->feed) == 0 && holds(room, v->record, v->record_len) && handed)
         return 1;
     printf("%s %u: code %u, wanted %u, feed %u %u %u\n", name, number, code, v->code, v->feed[0], v->feed[1], v->feed[2]);
     return 0;

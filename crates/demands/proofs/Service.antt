@@ -2,7 +2,7 @@
 use Rattle.feeder.proofs.BelongLaws.{responses-pay}
 use Rattle.feeder.proofs.StepLaws.{part-none, part-between}
 use Rattle.feeder.proofs.RuleLaws.{follows, only}
-use Rattle.feeder.proofs.FaultlessLaws.{never-refused}
+use Rattle.feeder.proofs.FaultlessLaws.{never-refused, can-ask}
 use Rattle.feeder.proofs.DroppedLaws.{dropped}
 use Rattle.feeder.proofs.ServiceLaws.{within-five, within-two, who-waited, in-order, beginning}
 use Rattle.demands.specs.Service.{Service}
@@ -20,5 +20,6 @@ service = record {
   in-order = in-order;
   beginning = beginning;
   never-refused = never-refused;
+  can-ask = can-ask;
   dropped = dropped;
 }

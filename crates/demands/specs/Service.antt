@@ -12,7 +12,7 @@ use Rattle.record.specs.Records.{recordsOf}
 use Rattle.feeder.specs.Due.{listOf, positionOf}
 use Rattle.feeder.specs.Feeding.{freshFeed, feeding, fedPart}
 use Rattle.feeder.specs.Rules.{Belongs, RecordAt, Valid, Short, Rule, Between}
-use Rattle.feeder.specs.Asks.{Lists, bytesOf, Turn, isRefused, Asking, Within, Served, Parts, HandedOut, joined, Faultless, lowered, loweredStep}
+use Rattle.feeder.specs.Asks.{Lists, bytesOf, Turn, isRefused, Asking, Asked, Within, Served, Parts, HandedOut, joined, Faultless, lowered, loweredStep}
 use Rattle.feeder.specs.declared.found.Waiting.{Waiting}
 use Rattle.feeder.specs.declared.found.Waiting.the-variants.{Responses, Others}
 use Rattle.feeder.specs.declared.feed.Feed.{Feed}
@@ -57,6 +57,9 @@ pub record Service : Type 0 where
   -- where nothing is wrong in what waits no ask is refused, and nothing is wrong afterwards
   pub never-refused : (f : ℕ) (responses others : List ℕ) (s : Feed) → IsBytes responses → IsBytes others → Faultless f responses others s
       → (isRefused (feeding f responses others s .answer) ≡ false) × Faultless f responses others (feeding f responses others s .feed)
+  -- so any number of asks can be made, to which the promises apply
+  pub can-ask : (f : ℕ) (l : Lists) (s : Feed) → IsBytes (l .responses) → IsBytes (l .others) → Faultless f (l .responses) (l .others) s
+      → (n : ℕ) → Asked f l s n
   -- bytes that were handed out may be dropped, with both positions lowered: the same record is handed out of the same list
   pub dropped : (f : ℕ) (responses others : List ℕ) (s : Feed) → IsBytes responses → IsBytes others → Valid f responses others s
       → Short responses others → (a b : ℕ) → a ≤ s .response → b ≤ s .other

@@ -1,5 +1,5 @@
--- Where nothing is wrong in what waits no ask is refused. Assumes nothing.
-use Prim.Native.Nat.{ℕ, _+_, _≤_, _<_}
+-- Where nothing is wrong in what waits no ask is refused, and any number of asks can be made. Assumes nothing.
+use Prim.Native.Nat.{ℕ, zero, suc, _+_, _≤_, _<_}
 use mathlib.Core.Path.{_≡_, refl, sym, ap, _∙_}
 use mathlib.Core.Bool.{true, false}
 use mathlib.Core.List.{List, [], _∷_, _++_}
@@ -13,13 +13,14 @@ use Rattle.message.specs.Heads.{typeOf, isMessage}
 use Rattle.record.specs.Records.{recordOf, recordsOf, AllMessages}
 use Rattle.feeder.specs.Feeding.{feeding, fedPart}
 use Rattle.feeder.specs.Rules.{Belongs, RecordAt, Due, RunsOn, Rule, not-valid, too-long, hands-response, hands-other, both-empty, response-broken, other-broken}
-use Rattle.feeder.specs.Asks.{isRefused, AllBelong, Rest, Faultless}
+use Rattle.feeder.specs.Asks.{Lists, Turn, isRefused, none, then, Asked, AllBelong, Rest, Faultless}
 use Rattle.feeder.specs.declared.found.Waiting.{Waiting}
 use Rattle.feeder.specs.declared.found.Waiting.the-variants.{Responses, Others}
 use Rattle.feeder.specs.declared.feed.Feed.{Feed}
 use Rattle.feeder.specs.declared.feed.Step.{Step}
 use Rattle.feeder.proofs.RecordCases.{record-one}
 use Rattle.feeder.proofs.RuleLaws.{follows}
+use Rattle.feeder.proofs.TurnLaws.{lengthened-none}
 
 -- the first of the records that are left
 record-first : (w : Waiting) (l : List ℕ) (at : ℕ) (m rest : List ℕ) → isMessage m ≡ true → Belongs w (typeOf m) → at < length l
@@ -101,3 +102,18 @@ rule-faultless f R O s _ _ (other-broken v k d n) h = let x = rest-next Others O
 pub never-refused : (f : ℕ) (responses others : List ℕ) (s : Feed) → IsBytes responses → IsBytes others → Faultless f responses others s
     → (isRefused (feeding f responses others s .answer) ≡ false) × Faultless f responses others (feeding f responses others s .feed)
 never-refused f R O s b c h = rule-faultless f R O s (feeding f R O s) (fedPart f R O s) (follows f R O s b c) h
+
+-- so any number of asks can be made
+pub can-ask : (f : ℕ) (l : Lists) (s : Feed) → IsBytes (l .responses) → IsBytes (l .others) → Faultless f (l .responses) (l .others) s → (n : ℕ) → Asked f l s n
+can-ask f l s b c h zero = record { turns = []; last = s; asks = none; long = refl }
+can-ask f l s b c h (suc n) =
+    let step = feeding f (l .responses) (l .others) s in
+    let next = never-refused f (l .responses) (l .others) s b c h in
+    let rest = can-ask f l (step .feed) b c (next .1) n in
+    let turn : Turn = record { step = step; bytes = fedPart f (l .responses) (l .others) s } in
+    record {
+      turns = turn ∷ rest .turns;
+      last = rest .last;
+      asks = then (lengthened-none l) (record { step = refl; bytes = refl; accepted = next .0; of-bytes = (b, c) }) (rest .asks);
+      long = ap suc (rest .long);
+    }

@@ -57,6 +57,13 @@ pub data Asking (f : ℕ) : Lists → Feed → List Turn → Lists → Feed → 
   then : {a b z : Lists} {s e : Feed} {t : Turn} {ts : List Turn}
       → Lengthened a b → Asks f b s t → Asking f b (t .step .feed) ts z e → Asking f a s (t ∷ ts) z e
 
+-- n asks with the same lists
+pub record Asked (f : ℕ) (l : Lists) (s : Feed) (n : ℕ) : Type 0 where
+  pub turns : List Turn
+  pub last : Feed
+  pub asks : Asking f l s turns l last
+  pub long : length turns ≡ n
+
 -- one of the first n asks hands a record out of the list w, and the first that does hands out these bytes
 pub data Within (w : Waiting) (bytes : List ℕ) : ℕ → List Turn → Type 0 where
   at-once : {n : ℕ} {t : Turn} {ts : List Turn} → t .step .answer ≡ Handed w → t .bytes ≡ bytes → Within w bytes (suc n) (t ∷ ts)

@@ -1,11 +1,14 @@
-// The judging and the filling of containers, for tests and benchmarks written in C.
+// The judging and the filling of containers, and the part that the feeder hands out, for tests and benchmarks written in C.
 ghost use mathlib.Core.Path.{_≡_};
-ghost use lib.ListN.{length};
+ghost use lib.ListN.{length, getD};
+ghost use Rattle.feeder.specs.Feeding.{fedPart};
 ghost use Rattle.probe.specs.Judge.{judgeCode};
+ghost use Rattle.probe.specs.Feed.{feedOf};
 ghost use Rattle.probe.specs.Fill.{grantFrom, Small, answerCode, fillCode, fillTail, fillContainer};
 use cause::number_cause;
 use container::Grant;
 use container::byte_at;
+use feeder::Feed;
 use reader::Judgement;
 use reader::Reader;
 use writer::Answer;
@@ -111,4 +114,45 @@ pub extern "C" fn c2c_fill(
     store_tail(tail, kept);
     let answer = step.answer;
     encode_answer(answer, next.len)
+}
+
+// The bytes of the part that an ask hands out.
+#[no_mangle]
+pub extern "C" fn c2c_part_length<'a>(
+    format: u32,
+    response: usize,
+    other: usize,
+    run: u32,
+    responses: &'a [u8],
+    others: &'a [u8],
+) -> usize
+    ensures { λ r. ⌜ r ≡ length (fedPart format (now (responses .entry)) (now (others .entry)) (feedOf response other run)) ⌝ }
+{
+    let feed = Feed {
+        response: response,
+        other: other,
+        run: run,
+    };
+    feed.next_record(format, responses, others).len()
+}
+
+// Byte i of the part that an ask hands out, 0 behind its end.
+#[no_mangle]
+pub extern "C" fn c2c_part_byte<'a>(
+    i: usize,
+    format: u32,
+    response: usize,
+    other: usize,
+    run: u32,
+    responses: &'a [u8],
+    others: &'a [u8],
+) -> u8
+    ensures { λ r. ⌜ r ≡ getD (fedPart format (now (responses .entry)) (now (others .entry)) (feedOf response other run)) i 0 ⌝ }
+{
+    let feed = Feed {
+        response: response,
+        other: other,
+        run: run,
+    };
+    byte_at(feed.next_record(format, responses, others), i)
 }
