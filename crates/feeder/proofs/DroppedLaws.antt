@@ -15,6 +15,7 @@ use Rattle.feeder.specs.declared.found.Waiting.the-variants.{Responses, 
 use Rattle.feeder.specs.declared.feed.Feed.{Feed}
 use Rattle.feeder.specs.declared.feed.Answer.the-variants.{Handed}
 use Rattle.feeder.specs.declared.feed.Step.{Step}
+use Rattle.feeder.proofs.RecordCases.{record-also}
 use Rattle.feeder.proofs.RuleLaws.{follows, only}
 
 -- ---- a record behind the bytes that are dropped
@@ -24,30 +25,10 @@ module _ (w : Waiting) (l : List ℕ) (at a : ℕ) (h : a ≤ at) where
   same-part n = let e : a + (at - a) ≡ at = omega arith in ap (take n) (drop-drop (at - a) a l ∙ ap (λ (k : ℕ). drop k l) e)
 
   record-lowered : (p : List ℕ) → at < length l → RecordAt w l at p → RecordAt w (drop a l) (at - a) p
-  record-lowered p k r =
-      let n = length-drop a l in
-      let b = r .within in
-      record {
-        message = r .message;
-        whole = r .whole;
-        belongs = r .belongs;
-        written = r .written;
-        within = omega arith;
-        stands = same-part (length p) ∙ r .stands;
-      }
+  record-lowered p k r = let n = length-drop a l in let b = r .within in record-also r (omega arith) (same-part (length p))
 
   record-raised : (p : List ℕ) → at < length l → RecordAt w (drop a l) (at - a) p → RecordAt w l at p
-  record-raised p k r =
-      let n = length-drop a l in
-      let b = r .within in
-      record {
-        message = r .message;
-        whole = r .whole;
-        belongs = r .belongs;
-        written = r .written;
-        within = omega arith;
-        stands = sym (same-part (length p)) ∙ r .stands;
-      }
+  record-raised p k r = let n = length-drop a l in let b = r .within in record-also r (omega arith) (sym (same-part (length p)))
 
 -- ---- the rules
 

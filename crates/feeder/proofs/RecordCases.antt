@@ -112,15 +112,20 @@ record-one w l at p q r t =
     let n : length p ≡ length q = omega arith in
     sym (r .stands) ∙ ap (λ (x : ℕ). part at x l) n ∙ t .stands
 
+-- a record stands wherever the same bytes do
+pub record-also : {w : Waiting} {l k : List ℕ} {at to : ℕ} {p : List ℕ} → RecordAt w l at p → to + length p ≤ length k
+    → part to (length p) k ≡ part at (length p) l → RecordAt w k to p
+record-also r within same = record {
+  message = r .message;
+  whole = r .whole;
+  belongs = r .belongs;
+  written = r .written;
+  within = within;
+  stands = same ∙ r .stands;
+}
+
 pub record-longer : (w : Waiting) (l x k : List ℕ) (at : ℕ) (p : List ℕ) → k ≡ l ++ x → RecordAt w l at p → RecordAt w k at p
 record-longer w l x k at p e r =
     let n = length-append l x in
     let b = r .within in
-    record {
-      message = r .message;
-      whole = r .whole;
-      belongs = r .belongs;
-      written = r .written;
-      within = rw e (rw n (omega arith));
-      stands = rw (e, part-append l x at (length p) b) (r .stands);
-    }
+    record-also r (rw e (rw n (omega arith))) (rw e (part-append l x at (length p) b))

@@ -93,30 +93,39 @@ module _ (f : ℕ) (R O : List ℕ) (s : Feed) (v : Verdict) (ev : v ≡ firstFa
 -- ---- the outcomes of an ask
 
 module _ (f : ℕ) (R O : List ℕ) (s : Feed) where
+  abbrev verdict : Verdict
+  verdict = firstFault (callChecks f (length R) (length O) s)
+
+  abbrev dueStep : Step
+  dueStep = stepOf (dueOf (length R) (length O) s) R O s
+
   -- what holds of a refusal by 19, of one by 18 and of what the list due gives holds of the answer
   pub by-outcome : (P : Step → Type 0) → ((Valid f R O s → ⊥) → P (refusing s Neither InvalidState 0))
-      → (Valid f R O s → (Short R O → ⊥) → P (refusing s Neither TooLong 0))
-      → (Valid f R O s → Short R O → P (stepOf (dueOf (length R) (length O) s) R O s)) → P (feeding f R O s)
+      → (Valid f R O s → (Short R O → ⊥) → P (refusing s Neither TooLong 0)) → (Valid f R O s → Short R O → P dueStep) → P (feeding f R O s)
   unfolding feeding
   by-outcome P invalid long due = ⊎-elim good bad (cases (feedOk f (length R) (length O) s))
     where
-      known : (v : Verdict) → v ≡ firstFault (callChecks f (length R) (length O) s) → P (stepBy v s (stepOf (dueOf (length R) (length O) s) R O s))
-          → P (stepBy (firstFault (callChecks f (length R) (length O) s)) s (stepOf (dueOf (length R) (length O) s) R O s))
-      known v e x = subst (λ (k : Verdict). P (stepBy k s (stepOf (dueOf (length R) (length O) s) R O s))) e x
+      known : (v : Verdict) → v ≡ verdict → P (stepBy v s dueStep) → P (stepBy verdict s dueStep)
+      known v e x = subst (λ (k : Verdict). P (stepBy k s dueStep)) e x
 
-      bad : feedOk f (length R) (length O) s ≡ false → P (stepBy (firstFault (callChecks f (length R) (length O) s)) s (stepOf (dueOf (length R) (length O) s) R O s))
+      bad : feedOk f (length R) (length O) s ≡ false → P (stepBy verdict s dueStep)
       bad e = known (Faulty InvalidState 0) (call-invalid f (length R) (length O) s e) (invalid (λ v. never-both e (valid-feed f R O s v)))
 
-      good : feedOk f (length R) (length O) s ≡ true → P (stepBy (firstFault (callChecks f (length R) (length O) s)) s (stepOf (dueOf (length R) (length O) s) R O s))
-      good e =
-          let v = feed-valid f R O s e in
-          ⊎-elim
-          (λ (a : length R < 4097).
-          ⊎-elim (λ (b : length O < 4097). known Sound (call-sound f (length R) (length O) s e (omega arith) (omega arith)) (due v (omega arith, omega arith)))
-          (λ (b : 4097 ≤ length O).
-          known (Faulty TooLong 0) (call-others f (length R) (length O) s e (omega arith) (omega arith)) (long v (λ h. let k = h .1 in omega arith))) (lt-or-le (length O) 4097))
-          (λ (a : 4097 ≤ length R). known (Faulty TooLong 0) (call-responses f (length R) (length O) s e (omega arith)) (long v (λ h. let k = h .0 in omega arith)))
-          (lt-or-le (length R) 4097)
+      good : feedOk f (length R) (length O) s ≡ true → P (stepBy verdict s dueStep)
+      good e = ⊎-elim responses-short responses-long (lt-or-le (length R) 4097)
+        where
+          v : Valid f R O s
+          v = feed-valid f R O s e
+
+          responses-long : 4097 ≤ length R → P (stepBy verdict s dueStep)
+          responses-long a = known (Faulty TooLong 0) (call-responses f (length R) (length O) s e (omega arith)) (long v (λ h. let k = h .0 in omega arith))
+
+          responses-short : length R < 4097 → P (stepBy verdict s dueStep)
+          responses-short a =
+              ⊎-elim (λ (b : length O < 4097). known Sound (call-sound f (length R) (length O) s e (omega arith) (omega arith)) (due v (omega arith, omega arith)))
+              (λ (b : 4097 ≤ length O).
+              known (Faulty TooLong 0) (call-others f (length R) (length O) s e (omega arith) (omega arith)) (long v (λ h. let k = h .1 in omega arith)))
+              (lt-or-le (length O) 4097)
 
   -- what holds of a broken record, of one handed out of each list and of none holds of what the list due gives
   pub by-found : (P : Step → Type 0) → P (refusing s Responses BrokenRecord (s .response)) → P (refusing s Others BrokenRecord (s .other))

@@ -116,7 +116,26 @@ pub extern "C" fn c2c_fill(
     encode_answer(answer, next.len)
 }
 
-// The bytes of the part that an ask hands out.
+// The part that an ask with two positions and a run hands out.
+fn ask<'a>(
+    format: u32,
+    response: usize,
+    other: usize,
+    run: u32,
+    responses: &'a [u8],
+    others: &'a [u8],
+) -> &'a [u8]
+    ensures { λ r. ⌜ now r ≡ fedPart format (now (responses .entry)) (now (others .entry)) (feedOf response other run) ⌝ }
+{
+    let feed = Feed {
+        response: response,
+        other: other,
+        run: run,
+    };
+    feed.next_record(format, responses, others)
+}
+
+// The bytes of that part.
 #[no_mangle]
 pub extern "C" fn c2c_part_length<'a>(
     format: u32,
@@ -128,15 +147,10 @@ pub extern "C" fn c2c_part_length<'a>(
 ) -> usize
     ensures { λ r. ⌜ r ≡ length (fedPart format (now (responses .entry)) (now (others .entry)) (feedOf response other run)) ⌝ }
 {
-    let feed = Feed {
-        response: response,
-        other: other,
-        run: run,
-    };
-    feed.next_record(format, responses, others).len()
+    ask(format, response, other, run, responses, others).len()
 }
 
-// Byte i of the part that an ask hands out, 0 behind its end.
+// Byte i of that part, 0 behind its end.
 #[no_mangle]
 pub extern "C" fn c2c_part_byte<'a>(
     i: usize,
@@ -149,10 +163,5 @@ pub extern "C" fn c2c_part_byte<'a>(
 ) -> u8
     ensures { λ r. ⌜ r ≡ getD (fedPart format (now (responses .entry)) (now (others .entry)) (feedOf response other run)) i 0 ⌝ }
 {
-    let feed = Feed {
-        response: response,
-        other: other,
-        run: run,
-    };
-    byte_at(feed.next_record(format, responses, others), i)
+    byte_at(ask(format, response, other, run, responses, others), i)
 }

@@ -7,14 +7,14 @@ use borrow.Author.Needs.{needs}
 use Rattle.probe.proofs.c2c_part_byte.Statement.{statement}
 use Rattle.probe.proofs.c2c_part_byte.Tie as tie
 
-next-record-requires : tie.Need-next-record-requires
-next-record-requires c κs = search needs
+ask-requires : tie.Need-ask-requires
+ask-requires c κs = search needs
 
 byte-at-requires : tie.Need-byte-at-requires
 byte-at-requires c κs = search needs
 
 returns : tie.Need-returns
-returns c = c .byte-at .ensures ∙ ap (λ (l : List ℕ). getD l (c .before .before .before .before .args .i) 0) (c .before .next-record .ensures)
+returns c = c .byte-at .ensures ∙ ap (λ (l : List ℕ). getD l (c .before .before .before .before .args .i) 0) (c .before .ask .ensures)
 
 pub c2c-part-byte-spec : {M : Type 1} → statement M
-c2c-part-byte-spec = tie.close (tie.spec next-record-requires byte-at-requires returns)
+c2c-part-byte-spec = tie.close (tie.spec ask-requires byte-at-requires returns)

@@ -5,11 +5,11 @@ use borrow.Author.Needs.{needs}
 use Rattle.probe.proofs.c2c_part_length.Statement.{statement}
 use Rattle.probe.proofs.c2c_part_length.Tie as tie
 
-next-record-requires : tie.Need-next-record-requires
-next-record-requires c κs = search needs
+ask-requires : tie.Need-ask-requires
+ask-requires c κs = search needs
 
 returns : tie.Need-returns
-returns c = ap length (c .next-record .ensures)
+returns c = ap length (c .ask .ensures)
 
 pub c2c-part-length-spec : {M : Type 1} → statement M
-c2c-part-length-spec = tie.close (tie.spec next-record-requires returns)
+c2c-part-length-spec = tie.close (tie.spec ask-requires returns)
