@@ -96,6 +96,13 @@ static void send_container(struct chain *c) {
     fwrite(container, 1, CONTAINER, stdout);
 }
 
+/* Drops the bytes of a list that were handed out and lowers its position by as many, so that the list does not fill up. */
+static void drop_handed(struct list *list, uint32_t *position) {
+    list->len -= *position;
+    memmove(list->bytes, list->bytes + *position, list->len);
+    *position = 0;
+}
+
 /* Asks until enough is pending or both lists are empty; answers whether anything is to be sent. */
 static int prepare(struct chain *c) {
     int more = 1;
@@ -103,6 +110,8 @@ static int prepare(struct chain *c) {
         arrive(c);
         more = ask(c);
     }
+    drop_handed(&c->responses, &c->feed[0]);
+    drop_handed(&c->others, &c->feed[1]);
     return c->pending.len > 0 || c->tail_len > 0;
 }
 

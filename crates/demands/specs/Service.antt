@@ -19,10 +19,9 @@ use Rattle.feeder.specs.declared.feed.Feed.{Feed}
 use Rattle.feeder.specs.declared.feed.Answer.{Answer}
 use Rattle.feeder.specs.declared.feed.Answer.the-variants.{Handed}
 use Rattle.feeder.specs.declared.feed.Step.{Step}
+use Rattle.demands.specs.Beneath.{reqS, resp}
 
 pub record Service : Type 0 where
-  -- ---- one ask
-
   -- the answer and the part are those of the rules, and the rules allow no others
   pub follows : (f : ℕ) (responses others : List ℕ) (s : Feed) → IsBytes responses → IsBytes others
       → Rule f responses others s (feeding f responses others s) (fedPart f responses others s)
@@ -35,9 +34,8 @@ pub record Service : Type 0 where
       → Between (listOf w responses others) (positionOf w s) (positionOf w (feeding f responses others s .feed)) (fedPart f responses others s)
   -- the messages that belong in the response list are those that pay RSP
   pub responses-pay : (m : List ℕ) → Belongs Responses (typeOf m) ↔ (pays rsp m ≡ true)
-  -- ---- asks with the positions and run last answered and the same lists, at most lengthened at the end, none of which is refused
-
-  -- "whoever waits at a list's head is served within five asks"
+  -- "if each ask hands in the positions and run last answered and the same lists, at most lengthened at the end, and none is refused,
+  -- whoever waits at a list's head is served within five asks"
   pub within-five : (f : ℕ) (a z : Lists) (s e : Feed) (ts : List Turn) → Asking f a s ts z e → 5 ≤ length ts
       → s .other < length (a .others) → Served Others 5 (z .others) (s .other) ts
   -- "or within two if it heads the response list"
@@ -52,8 +50,6 @@ pub record Service : Type 0 where
   -- from the fresh feed on it is the list's beginning
   pub beginning : (f : ℕ) (a z : Lists) (e : Feed) (ts : List Turn) → Asking f a freshFeed ts z e → (w : Waiting) (parts : List (List ℕ))
       → Parts w ts parts → joined parts ≡ take (positionOf w e) (bytesOf w z)
-  -- ---- what a caller may rely on
-
   -- where nothing is wrong in what waits no ask is refused, and nothing is wrong afterwards
   pub never-refused : (f : ℕ) (responses others : List ℕ) (s : Feed) → IsBytes responses → IsBytes others → Faultless f responses others s
       → (isRefused (feeding f responses others s .answer) ≡ false) × Faultless f responses others (feeding f responses others s .feed)
@@ -68,14 +64,8 @@ pub record Service : Type 0 where
 
 -- ---- both bounds are reached
 
-abbrev aResp : List ℕ
-aResp = 3 ∷ replicate 9 0
-
-abbrev aResp2 : List ℕ
-aResp2 = 4 ∷ replicate 19 0
-
-abbrev aReqS : List ℕ
-aReqS = 1 ∷ replicate 19 0
+abbrev pub resp2 : List ℕ
+resp2 = 4 ∷ replicate 19 0
 
 -- the answers of n asks with the same lists
 abbrev pub answers : ℕ → List ℕ → List ℕ → Feed → List Answer
@@ -84,7 +74,7 @@ answers (suc n) responses others s = feeding 0 responses others s .answer ∷ an
 
 -- five responses, two of them Resp2, and a ReqS in the other list
 abbrev pub asked : ℕ → Feed → List Answer
-asked n s = answers n (recordsOf (aResp ∷ aResp2 ∷ aResp ∷ aResp2 ∷ aResp ∷ [])) (recordsOf (aReqS ∷ [])) s
+asked n s = answers n (recordsOf (resp ∷ resp2 ∷ resp ∷ resp2 ∷ resp ∷ [])) (recordsOf (reqS ∷ [])) s
 
 pub record Reached : Type 0 where
   -- the head of the other list is served at the fifth ask: four responses, of which a Resp2 is one, go before it
