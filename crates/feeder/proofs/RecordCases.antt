@@ -16,7 +16,8 @@ use Rattle.record.proofs.RecordLaws.{Splits, first-splits, first-written}
 use Rattle.feeder.specs.Due.{belongsBy, foundAt}
 use Rattle.feeder.specs.Rules.{RecordAt}
 use Rattle.feeder.specs.declared.found.Waiting.{Waiting}
-use Rattle.feeder.specs.declared.found.Found.the-variants.{Right}
+use Rattle.feeder.specs.declared.found.Found.{Found}
+use Rattle.feeder.specs.declared.found.Found.the-variants.{Right, Wrong}
 use Rattle.feeder.proofs.BelongLaws.{belongs-by, by-belongs}
 use Rattle.feeder.proofs.FoundLaws.{found-to}
 
@@ -102,6 +103,19 @@ module _ (w : Waiting) (l : List ℕ) (at : ℕ) (p : List ℕ) (r : RecordAt w 
   pub record-found : foundAt w l at ≡ Right (at + length p)
   unfolding foundAt
   record-found = rw (first-is, message-is, belongs-by w (typeOf (r .message)) (r .belongs), size-is)
+
+-- ---- where no record is found none stands, and the other way round
+
+pub none-stands : (w : Waiting) (l : List ℕ) (at : ℕ) → foundAt w l at ≡ Wrong → (p : List ℕ) → RecordAt w l at p → ⊥
+none-stands w l at q p r =
+    let e : Wrong ≡ Right (at + length p) = sym q ∙ record-found w l at p r in let z : _≡_ {A = ℕ} 0 1 = cc in omega arith
+
+pub none-found : (w : Waiting) (l : List ℕ) (at : ℕ) → IsBytes l → at ≤ length l → ((p : List ℕ) → RecordAt w l at p → ⊥) → foundAt w l at ≡ Wrong
+none-found w l at b h n = by (foundAt w l at) refl
+  where
+    by : (x : Found) → foundAt w l at ≡ x → foundAt w l at ≡ Wrong
+    by Wrong q = q
+    by (Right end) q = absurd (n (part at (end - at) l) (found-record w l at b h end q .stands))
 
 -- ---- one record at one position, also in a list that was lengthened
 

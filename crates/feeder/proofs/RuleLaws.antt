@@ -16,7 +16,7 @@ use Rattle.cause.specs.declared.Verdict.{Verdict}
 use Rattle.cause.specs.declared.Verdict.the-variants.{Sound, Faulty}
 use Rattle.feeder.specs.Due.{dueOf, foundAt}
 use Rattle.feeder.specs.Feeding.{feedOk, callChecks, refusing, runAfter, responseStep, otherStep, emptyStep, stepOf, stepBy, listServed, passed, feeding, fedPart}
-use Rattle.feeder.specs.Rules.{RecordAt, Valid, Short, Due, RunsOn, Rule, not-valid, too-long, hands-response, hands-other, both-empty, response-broken, other-broken}
+use Rattle.feeder.specs.Rules.{Valid, Short, Due, RunsOn, Rule, not-valid, too-long, hands-response, hands-other, both-empty, response-broken, other-broken}
 use Rattle.feeder.specs.declared.found.Waiting.{Waiting}
 use Rattle.feeder.specs.declared.found.Waiting.the-variants.{Responses, Others, Neither}
 use Rattle.feeder.specs.declared.found.Found.{Found}
@@ -25,7 +25,7 @@ use Rattle.feeder.specs.declared.feed.Feed.{Feed}
 use Rattle.feeder.specs.declared.feed.Answer.the-variants.{Handed}
 use Rattle.feeder.specs.declared.feed.Step.{Step}
 use Rattle.feeder.proofs.StepCases.{call-invalid, call-responses, call-others, call-sound, feed-valid, valid-feed, by-outcome}
-use Rattle.feeder.proofs.RecordCases.{found-record, record-found}
+use Rattle.feeder.proofs.RecordCases.{found-record, record-found, none-stands, none-found}
 
 -- ---- the list due
 
@@ -105,10 +105,7 @@ module _ (f : ℕ) (R O : List ℕ) (s : Feed) where
   module _ (v : Valid f R O s) (h : Short R O) where
     follows-response : IsBytes R → Due Responses R O s → (x : Found) → foundAt Responses R (s .response) ≡ x
         → Rule f R O s (responseStep (length O) s x) (passed R O s (responseStep (length O) s x) (listServed (responseStep (length O) s x .answer)))
-    follows-response b d Wrong q = response-broken v h d (λ p r. never p r)
-      where
-        never : (p : List ℕ) → RecordAt Responses R (s .response) p → ⊥
-        never p r = let e : Wrong ≡ Right (s .response + length p) = sym q ∙ record-found Responses R (s .response) p r in let z : _≡_ {A = ℕ} 0 1 = cc in omega arith
+    follows-response b d Wrong q = response-broken v h d (none-stands Responses R (s .response) q)
     follows-response b d (Right end) q =
         let r = found-record Responses R (s .response) b (v .response) end q in
         subst
@@ -117,10 +114,7 @@ module _ (f : ℕ) (R O : List ℕ) (s : Feed) where
 
     follows-other : IsBytes O → Due Others R O s → (x : Found) → foundAt Others O (s .other) ≡ x
         → Rule f R O s (otherStep s x) (passed R O s (otherStep s x) (listServed (otherStep s x .answer)))
-    follows-other b d Wrong q = other-broken v h d (λ p r. never p r)
-      where
-        never : (p : List ℕ) → RecordAt Others O (s .other) p → ⊥
-        never p r = let e : Wrong ≡ Right (s .other + length p) = sym q ∙ record-found Others O (s .other) p r in let z : _≡_ {A = ℕ} 0 1 = cc in omega arith
+    follows-other b d Wrong q = other-broken v h d (none-stands Others O (s .other) q)
     follows-other b d (Right end) q =
         let r = found-record Others O (s .other) b (v .other) end q in
         subst
@@ -146,11 +140,6 @@ module _ (f : ℕ) (R O : List ℕ) (s : Feed) where
   same : (t : Step) (p : List ℕ) → t ≡ feeding f R O s → p ≡ passed R O s t (listServed (t .answer)) → Same t p
   same t p e q = (e, q ∙ part-by t e)
 
-  -- where no record stands none is found
-  none-found : (w : Waiting) (l : List ℕ) (at : ℕ) → IsBytes l → at ≤ length l → ((p : List ℕ) → RecordAt w l at p → ⊥) → (x : Found) → foundAt w l at ≡ x → foundAt w l at ≡ Wrong
-  none-found w l at b k n Wrong q = q
-  none-found w l at b k n (Right end) q = absurd (n (part at (end - at) l) (found-record w l at b k end q .stands))
-
   size-behind : (a k : ℕ) → (a + k) - a ≡ k
   size-behind a k = omega arith
 
@@ -168,7 +157,7 @@ module _ (f : ℕ) (R O : List ℕ) (s : Feed) where
   only b c _ _ (both-empty v h d) = same (emptyStep s) [] (step-sound v h Neither d) refl
   only b c _ _ (response-broken v h d n) =
       same (refusing s Responses BrokenRecord (s .response)) []
-      (ap (responseStep (length O) s) (sym (none-found Responses R (s .response) b (v .response) n (foundAt Responses R (s .response)) refl)) ∙ step-sound v h Responses d) refl
+      (ap (responseStep (length O) s) (sym (none-found Responses R (s .response) b (v .response) n)) ∙ step-sound v h Responses d) refl
   only b c _ _ (other-broken v h d n) =
       same (refusing s Others BrokenRecord (s .other)) []
-      (ap (otherStep s) (sym (none-found Others O (s .other) c (v .other) n (foundAt Others O (s .other)) refl)) ∙ step-sound v h Others d) refl
+      (ap (otherStep s) (sym (none-found Others O (s .other) c (v .other) n)) ∙ step-sound v h Others d) refl
