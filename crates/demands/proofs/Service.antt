@@ -1,6 +1,6 @@
 -- The feeder keeps its promises. Assumes nothing.
 use Rattle.feeder.proofs.BelongLaws.{responses-pay}
-use Rattle.feeder.proofs.StepLaws.{part-none, part-between}
+use Rattle.feeder.proofs.StepLaws.{part-none, part-between, step-moves}
 use Rattle.feeder.proofs.RuleLaws.{follows, only}
 use Rattle.feeder.proofs.FaultlessLaws.{never-refused, can-ask}
 use Rattle.feeder.proofs.DroppedLaws.{dropped}
@@ -13,6 +13,7 @@ service = record {
   only = only;
   part-none = part-none;
   part-between = part-between;
+  one-moves = step-moves;
   responses-pay = responses-pay;
   within-five = within-five;
   within-two = within-two;

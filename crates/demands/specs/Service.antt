@@ -11,7 +11,7 @@ use Rattle.message.specs.Kinds.{rsp, pays}
 use Rattle.record.specs.Records.{recordsOf}
 use Rattle.feeder.specs.Due.{listOf, positionOf}
 use Rattle.feeder.specs.Feeding.{freshFeed, feeding, fedPart}
-use Rattle.feeder.specs.Rules.{Belongs, RecordAt, Valid, Short, Rule, Between}
+use Rattle.feeder.specs.Rules.{Belongs, RecordAt, Valid, Short, Rule, Between, Moves, movedOver}
 use Rattle.feeder.specs.Asks.{Lists, bytesOf, Turn, isRefused, Asking, Asked, Within, Served, Parts, HandedOut, joined, Faultless, lowered, loweredStep}
 use Rattle.feeder.specs.declared.found.Waiting.{Waiting}
 use Rattle.feeder.specs.declared.found.Waiting.the-variants.{Responses, Others}
@@ -32,6 +32,10 @@ pub record Service : Type 0 where
       → ((w : Waiting) → feeding f responses others s .answer ≡ Handed w → ⊥) → fedPart f responses others s ≡ []
   pub part-between : (f : ℕ) (responses others : List ℕ) (s : Feed) (w : Waiting) → feeding f responses others s .answer ≡ Handed w
       → Between (listOf w responses others) (positionOf w s) (positionOf w (feeding f responses others s .feed)) (fedPart f responses others s)
+  -- at most one list moves, and what it moves over is the part
+  pub one-moves : (f : ℕ) (responses others : List ℕ) (s : Feed) → Valid f responses others s
+      → Moves responses others s (feeding f responses others s .feed)
+      × (fedPart f responses others s ≡ movedOver responses others s (feeding f responses others s .feed))
   -- the messages that belong in the response list are those that pay RSP
   pub responses-pay : (m : List ℕ) → Belongs Responses (typeOf m) ↔ (pays rsp m ≡ true)
   -- "if each ask hands in the positions and run last answered and the same lists, at most lengthened at the end, and none is refused,

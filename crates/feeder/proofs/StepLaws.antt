@@ -2,8 +2,8 @@
 -- nothing.
 use Prim.Native.Nat.{ℕ, _+_, _-_, _≤_, _<_}
 use mathlib.Core.Path.{_≡_, refl, sym, ap, _∙_}
-use mathlib.Core.List.{List, [], _++_, append-nil}
-use mathlib.Core.Logic.{_⊎_, inl, inr}
+use mathlib.Core.List.{List, [], append-nil}
+use mathlib.Core.Logic.{inl, inr}
 use native.Mathlib.Omega.{arith}
 use lib.ListN.{length, length-append}
 use Rattle.lists.specs.Parts.{part}
@@ -11,7 +11,7 @@ use Rattle.lists.proofs.PartLaws.{length-part}
 use Rattle.cause.specs.declared.Cause.{Cause}
 use Rattle.feeder.specs.Due.{listOf, positionOf, dueOf, foundAt}
 use Rattle.feeder.specs.Feeding.{responseStep, otherStep, emptyStep, listServed, passed, feeding, fedPart}
-use Rattle.feeder.specs.Rules.{Valid, Between}
+use Rattle.feeder.specs.Rules.{Valid, Between, Moves, movedOver}
 use Rattle.feeder.specs.declared.found.Waiting.{Waiting}
 use Rattle.feeder.specs.declared.found.Waiting.the-variants.{Responses, Others}
 use Rattle.feeder.specs.declared.found.Found.the-variants.{Right}
@@ -150,22 +150,14 @@ module _ (f : ℕ) (R O : List ℕ) (s : Feed) where
 
 -- ---- both lists at once
 
--- from one feed to the next at most one list moves, within its bounds, and the bytes are those that it moves over
-pub record Moves (R O : List ℕ) (s e : Feed) (bytes : List ℕ) : Type 0 where
-  pub forward : (s .response ≤ e .response) × (s .other ≤ e .other)
-  pub within : (e .response ≤ length R) × (e .other ≤ length O)
-  pub one : (e .response ≡ s .response) ⊎ (e .other ≡ s .other)
-  pub over : bytes ≡ part (s .response) (e .response - s .response) R ++ part (s .other) (e .other - s .other) O
-
-pub moves-long : (R O : List ℕ) (s e : Feed) (bytes : List ℕ) → Moves R O s e bytes
-    → (e .response - s .response) + (e .other - s .other) ≡ length bytes
-moves-long R O s e bytes m =
+pub moves-long : (R O : List ℕ) (s e : Feed) → Moves R O s e → (e .response - s .response) + (e .other - s .other) ≡ length (movedOver R O s e)
+moves-long R O s e m =
     let h = m .forward in
     let k = m .within in
     let a = length-part (s .response) (e .response - s .response) R (omega arith) in
     let b = length-part (s .other) (e .other - s .other) O (omega arith) in
     let c = length-append (part (s .response) (e .response - s .response) R) (part (s .other) (e .other - s .other) O) in
-    rw (m .over) (omega arith)
+    omega arith
 
 -- nothing lies between a position and itself
 pub none-over : (at : ℕ) (l : List ℕ) → part at (at - at) l ≡ []
@@ -173,41 +165,32 @@ none-over at l = let z : at - at ≡ 0 = omega arith in rw z
 
 module _ (f : ℕ) (R O : List ℕ) (s : Feed) (v : Valid f R O s) where
   abbrev StepMoves : Step → Type 0
-  StepMoves t = Moves R O s (t .feed) (passed R O s t (listServed (t .answer)))
+  StepMoves t = Moves R O s (t .feed) × (passed R O s t (listServed (t .answer)) ≡ movedOver R O s (t .feed))
 
   -- neither list moves
-  stays : (e : Feed) → e .response ≡ s .response → e .other ≡ s .other → Moves R O s e []
+  stays : (e : Feed) → e .response ≡ s .response → e .other ≡ s .other → Moves R O s e × ([] ≡ movedOver R O s e)
   stays e x y =
       let a = v .response in
-      let b = v .other in
-      record {
-        forward = (omega arith, omega arith);
-        within = (omega arith, omega arith);
-        one = inl x;
-        over = rw (x, y, none-over (s .response) R, none-over (s .other) O);
-      }
+      let b = v .other in (
+        record { forward = (omega arith, omega arith); within = (omega arith, omega arith); one = inl x },
+        rw (x, y, none-over (s .response) R, none-over (s .other) O),
+      )
 
   response-moves : (end : ℕ) → foundAt Responses R (s .response) ≡ Right end → StepMoves (responseStep (length O) s (Right end))
   response-moves end e =
-      let h = found-within Responses R (s .response) (v .response) end e in
-      record {
-        forward = (omega arith, omega arith);
-        within = (h .1, v .other);
-        one = inr refl;
-        over = rw (none-over (s .other) O) (sym (append-nil (part (s .response) (end - s .response) R)));
-      }
+      let h = found-within Responses R (s .response) (v .response) end e in (
+        record { forward = (omega arith, omega arith); within = (h .1, v .other); one = inr refl },
+        rw (none-over (s .other) O) (sym (append-nil (part (s .response) (end - s .response) R))),
+      )
 
   other-moves : (end : ℕ) → foundAt Others O (s .other) ≡ Right end → StepMoves (otherStep s (Right end))
   other-moves end e =
-      let h = found-within Others O (s .other) (v .other) end e in
-      record {
-        forward = (omega arith, omega arith);
-        within = (v .response, h .1);
-        one = inl refl;
-        over = rw (none-over (s .response) R);
-      }
+      let h = found-within Others O (s .other) (v .other) end e in (
+        record { forward = (omega arith, omega arith); within = (v .response, h .1); one = inl refl },
+        rw (none-over (s .response) R),
+      )
 
-  pub step-moves : Moves R O s (feeding f R O s .feed) (fedPart f R O s)
+  pub step-moves : Moves R O s (feeding f R O s .feed) × (fedPart f R O s ≡ movedOver R O s (feeding f R O s .feed))
   unfolding fedPart
   step-moves =
       by-outcome f R O s StepMoves (λ _. stays s refl refl) (λ _ _. stays s refl refl)

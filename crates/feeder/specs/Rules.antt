@@ -1,8 +1,8 @@
 -- The feeder's rules as propositions (document 02, K9): each answer, with what holds where it is given.
-use Prim.Native.Nat.{ℕ, _+_, _≤_, _<_}
+use Prim.Native.Nat.{ℕ, _+_, _-_, _≤_, _<_}
 use mathlib.Core.Path.{_≡_}
 use mathlib.Core.Bool.{true}
-use mathlib.Core.List.{List, []}
+use mathlib.Core.List.{List, [], _++_}
 use mathlib.Core.Logic.{_⊎_}
 use lib.ListN.{length}
 use Rattle.lists.specs.Parts.{part}
@@ -83,3 +83,14 @@ pub record Between (l : List ℕ) (old new : ℕ) (bytes : List ℕ) : Type 0 wh
   pub within : new ≤ length l
   pub long : old + length bytes ≡ new
   pub stands : part old (length bytes) l ≡ bytes
+
+-- from one feed to the next at most one list moves, forward and within its bounds
+pub record Moves (responses others : List ℕ) (s e : Feed) : Type 0 where
+  pub forward : (s .response ≤ e .response) × (s .other ≤ e .other)
+  pub within : (e .response ≤ length responses) × (e .other ≤ length others)
+  pub one : (e .response ≡ s .response) ⊎ (e .other ≡ s .other)
+
+-- what both lists move over
+abbrev pub movedOver : List ℕ → List ℕ → Feed → Feed → List ℕ
+movedOver responses others s e =
+    part (s .response) (e .response - s .response) responses ++ part (s .other) (e .other - s .other) others

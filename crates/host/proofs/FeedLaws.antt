@@ -1,5 +1,5 @@
 -- A call of the feeder from C by its parts. Assumes nothing.
-use Prim.Native.Nat.{ℕ, _+_, _-_, _≤_, _<_}
+use Prim.Native.Nat.{ℕ, _-_, _≤_, _<_}
 use mathlib.Core.Path.{_≡_, refl, sym, ap, _∙_}
 use mathlib.Core.Bool.{Bool, true, false, _&&_}
 use mathlib.Core.List.{List, [], _∷_, append-nil}
@@ -20,6 +20,7 @@ use Rattle.cause.specs.declared.Verdict.the-variants.{Sound, Faulty}
 use Rattle.cause.proofs.CauseLaws.{number-most}
 use Rattle.cause.proofs.CheckLaws.{sound-pass}
 use Rattle.feeder.specs.Feeding.{feedOk, stepBy, feeding, fedPart}
+use Rattle.feeder.specs.Rules.{Moves, movedOver}
 use Rattle.feeder.specs.declared.found.Waiting.{Waiting}
 use Rattle.feeder.specs.declared.found.Waiting.the-variants.{Responses, Others, Neither}
 use Rattle.feeder.specs.declared.feed.Feed.{Feed}
@@ -27,7 +28,7 @@ use Rattle.feeder.specs.declared.feed.Answer.{Answer}
 use Rattle.feeder.specs.declared.feed.Answer.the-variants.{Handed, Empty, Refused}
 use Rattle.feeder.specs.declared.feed.Step.{Step}
 use Rattle.feeder.proofs.StepCases.{feed-valid}
-use Rattle.feeder.proofs.StepLaws.{part-short, refused-state, refused-part, refused-place, positions-low, Moves, moves-long, none-over, step-moves}
+use Rattle.feeder.proofs.StepLaws.{part-short, refused-state, refused-part, refused-place, positions-low, moves-long, none-over, step-moves}
 use Rattle.host.specs.Feed.{feedFrom, numbersOf, PositionsFit, longestRecord, callChecks, listNumber, asking, answerCode, Small, feedCode, feedNumbers, feedRoom, Told}
 
 -- ---- the three numbers
@@ -93,6 +94,39 @@ module _ (a : Answer) (w : Waiting) (c : Cause) (p : ℕ) (e : a ≡ Refused w c
   pub refused-low : (bytes : ℕ) → Small a bytes → p ≤ 4096
   refused-low bytes h = rw e at h
 
+-- ---- the copies of what both lists moved over
+
+module _ (R O : List ℕ) (s e : Feed) (m : Moves R O s e) where
+  -- what each list moves over fits in the room
+  pub each-fits : (d : ℕ) → length (movedOver R O s e) ≤ d → (e .response - s .response ≤ d) × (e .other - s .other ≤ d)
+  each-fits d h = let a = moves-long R O s e m in (omega arith, omega arith)
+
+  -- the first copy keeps the room's length
+  pub copied-long : (room d : List ℕ) → length (movedOver R O s e) ≤ length room → d ≡ put 0 (part (s .response) (e .response - s .response) R) room → length d ≡ length room
+  copied-long room d h ed =
+      let k = m .forward in
+      let l = m .within in
+      let fits = each-fits (length room) h .0 in
+      let a = length-part (s .response) (e .response - s .response) R (omega arith) in
+      ap length ed ∙ length-put 0 (part (s .response) (e .response - s .response) R) room (omega arith)
+
+  -- of two copies one has no bytes
+  pub copied-both : (room c d : List ℕ) → c ≡ put 0 (part (s .response) (e .response - s .response) R) room
+      → d ≡ put 0 (part (s .other) (e .other - s .other) O) c → d ≡ put 0 (movedOver R O s e) room
+  copied-both room c d ec ed = ⊎-elim responses-stay others-stay (m .one)
+    where
+      responses-stay : e .response ≡ s .response → d ≡ put 0 (movedOver R O s e) room
+      responses-stay q =
+          let none : part (s .response) (e .response - s .response) R ≡ [] = rw q (none-over (s .response) R) in
+          let same : c ≡ room = ec ∙ rw none in
+          rw none (rw same at ed)
+
+      others-stay : e .other ≡ s .other → d ≡ put 0 (movedOver R O s e) room
+      others-stay q =
+          let none : part (s .other) (e .other - s .other) O ≡ [] = rw q (none-over (s .other) O) in
+          let same : d ≡ c = ed ∙ rw none in
+          rw (none, append-nil (part (s .response) (e .response - s .response) R)) (same ∙ ec)
+
 -- ---- a call
 
 -- the place of a call's fault is 0
@@ -140,64 +174,39 @@ module _ (f : ℕ) (n R O room : List ℕ) (v : Verdict) (ev : v ≡ firstFault 
       pub next-fits : PositionsFit s → PositionsFit (t .feed)
       next-fits h = rw et (positions-low f R O s 4_294_967_295 (omega arith) (h .0) (h .1))
 
-      pub moves : Moves R O s (t .feed) (fedPart f R O s)
-      moves = rw et (step-moves f R O s (feed-valid f R O s (rw es (passes .1))))
+      -- the lists move, and what they move over is the part and fits in the room
+      moves-over : Moves R O s (t .feed) × (fedPart f R O s ≡ movedOver R O s (t .feed))
+      moves-over = rw et (step-moves f R O s (feed-valid f R O s (rw es (passes .1))))
 
-      pub moved-long : (t .feed .response - s .response) + (t .feed .other - s .other) ≡ length (fedPart f R O s)
-      moved-long = moves-long R O s (t .feed) (fedPart f R O s) moves
+      pub moves : Moves R O s (t .feed)
+      moves = moves-over .0
 
-      -- what each list moves over fits in the room
-      pub moved-fits : (d : ℕ) → d ≡ length room → (t .feed .response - s .response ≤ d) × (t .feed .other - s .other ≤ d)
-      moved-fits d ed = let a = moved-long in let b = part-short f R O s in let c = passes .2 in (omega arith, omega arith)
+      pub moved-fits : length (movedOver R O s (t .feed)) ≤ length room
+      moved-fits = let a = ap length (moves-over .1) in let b = part-short f R O s in let c = passes .2 in omega arith
 
-      -- the first copy keeps the room's length
-      pub copied-long : (d : List ℕ) → d ≡ put 0 (part (s .response) (t .feed .response - s .response) R) room → length d ≡ length room
-      copied-long d ed =
-          let m = moves in
-          let h = m .forward in
-          let k = m .within in
-          let fits = moved-fits (length room) refl .0 in
-          let a = length-part (s .response) (t .feed .response - s .response) R (omega arith) in
-          ap length ed ∙ length-put 0 (part (s .response) (t .feed .response - s .response) R) room (omega arith)
-
-      pub answer-small : (x : ℕ) → x ≡ length (fedPart f R O s) → Small (t .answer) x
-      answer-small x ex = rw (et, ex) (by (feeding f R O s .answer) refl)
+      pub answer-small : (x : ℕ) → x ≡ length (movedOver R O s (t .feed)) → Small (t .answer) x
+      answer-small x ex = rw (ex ∙ ap length (sym (moves-over .1))) (rw et (by (feeding f R O s .answer) refl))
         where
           by : (a : Answer) → feeding f R O s .answer ≡ a → Small a (length (fedPart f R O s))
           by (Handed w) k = let h = part-short f R O s in omega arith
           by Empty k = tt
           by (Refused w c p) k = refused-place f R O s w c p k
 
-      pub sound-code : (x y : ℕ) → x ≡ length (fedPart f R O s) → y ≡ answerCode (t .answer) x → y ≡ feedCode f n R O (length room)
+      pub sound-code : (x y : ℕ) → x ≡ length (movedOver R O s (t .feed)) → y ≡ answerCode (t .answer) x → y ≡ feedCode f n R O (length room)
       unfolding feedCode
-      sound-code x y ex ey = ey ∙ rw (← ev, e, et, ex, es)
+      sound-code x y ex ey =
+          let ep : x ≡ length (fedPart f R O s) = ex ∙ ap length (sym (moves-over .1)) in
+          ey ∙ rw (← ev, e, et, ep, es)
 
       pub sound-numbers : (m : List ℕ) → m ≡ numbersOf (t .feed) → m ≡ feedNumbers f n R O (length room)
       unfolding feedNumbers
       sound-numbers m em = em ∙ rw (← ev, e, et, es)
 
-      pub sound-room : (d : List ℕ) → d ≡ put 0 (fedPart f R O s) room → d ≡ feedRoom f n R O room
+      pub sound-room : (d : List ℕ) → d ≡ put 0 (movedOver R O s (t .feed)) room → d ≡ feedRoom f n R O room
       unfolding feedRoom
-      sound-room d ed = ed ∙ rw (← ev, e, es)
-
--- what two lists moved over, of which at most one has moved, copied one after the other
-pub copied-both : (R O : List ℕ) (s e : Feed) (bytes : List ℕ) → Moves R O s e bytes → (room c d : List ℕ)
-    → c ≡ put 0 (part (s .response) (e .response - s .response) R) room → d ≡ put 0 (part (s .other) (e .other - s .other) O) c → d ≡ put 0 bytes room
-copied-both R O s e bytes m room c d ec ed = ⊎-elim responses-stay others-stay (m .one)
-  where
-    responses-stay : e .response ≡ s .response → d ≡ put 0 bytes room
-    responses-stay q =
-        let none : part (s .response) (e .response - s .response) R ≡ [] = rw q (none-over (s .response) R) in
-        let same : c ≡ room = ec ∙ rw none in
-        let over : bytes ≡ part (s .other) (e .other - s .other) O = m .over ∙ rw none in
-        rw over (rw same at ed)
-
-    others-stay : e .other ≡ s .other → d ≡ put 0 bytes room
-    others-stay q =
-        let none : part (s .other) (e .other - s .other) O ≡ [] = rw q (none-over (s .other) O) in
-        let same : d ≡ c = ed ∙ rw none in
-        let over : bytes ≡ part (s .response) (e .response - s .response) R = m .over ∙ rw none (append-nil (part (s .response) (e .response - s .response) R)) in
-        rw over (same ∙ ec)
+      sound-room d ed =
+          let ep : d ≡ put 0 (fedPart f R O s) room = ed ∙ ap (λ (x : List ℕ). put 0 x room) (sym (moves-over .1)) in
+          ep ∙ rw (← ev, e, es)
 
 -- ---- what a code tells, and that a refusal changes nothing
 
@@ -212,7 +221,8 @@ module _ (f : ℕ) (n R O room : List ℕ) where
 
   asked-small : (v : Verdict) → v ≡ verdict → Small (stepBy v (feedFrom n) (feeding f R O (feedFrom n)) .answer) (length (fedPart f R O (feedFrom n)))
   asked-small (Faulty c p) e = faulty-small f n R O room (Faulty c p) e c p refl
-  asked-small Sound e = answer-small f n R O room Sound e refl (feedFrom n) refl (feeding f R O (feedFrom n)) refl (length (fedPart f R O (feedFrom n))) refl
+  asked-small Sound e = answer-small f n R O room Sound e refl (feedFrom n) refl (feeding f R O (feedFrom n)) refl (length (fedPart f R O (feedFrom n)))
+      (ap length (moves-over f n R O room Sound e refl (feedFrom n) refl (feeding f R O (feedFrom n)) refl .1))
 
   pub code-told : Told (asking f n R O (length room) .answer) (length (fedPart f R O (feedFrom n))) (feedCode f n R O (length room))
   unfolding feedCode
@@ -225,7 +235,8 @@ module _ (f : ℕ) (n R O room : List ℕ) where
       let same = refused-state f R O (feedFrom n) w c p e in
       let none = refused-part f R O (feedFrom n) w c p e in
       let m = sound-numbers f n R O room Sound ev refl (feedFrom n) refl (feeding f R O (feedFrom n)) refl (numbersOf (feeding f R O (feedFrom n) .feed)) refl in
-      let d = sound-room f n R O room Sound ev refl (feedFrom n) refl (feeding f R O (feedFrom n)) refl (put 0 (fedPart f R O (feedFrom n)) room) refl in
+      let d = sound-room f n R O room Sound ev refl (feedFrom n) refl (feeding f R O (feedFrom n)) refl (put 0 (fedPart f R O (feedFrom n)) room)
+      (ap (λ (x : List ℕ). put 0 x room) (moves-over f n R O room Sound ev refl (feedFrom n) refl (feeding f R O (feedFrom n)) refl .1)) in
       (sym m ∙ ap numbersOf same ∙ three-numbers n (three f n R O room Sound ev refl), sym d ∙ rw none)
 
   pub refused-untouched : (w : Waiting) (c : Cause) (p : ℕ) → asking f n R O (length room) .answer ≡ Refused w c p

@@ -4,6 +4,7 @@ ghost use Prim.Native.Nat.{_-_, _≤_};
 ghost use lib.ListN.{length};
 ghost use Rattle.lists.specs.Parts.{part, put};
 ghost use Rattle.cause.specs.Checks.{firstFault};
+ghost use Rattle.feeder.specs.Rules.{Moves, movedOver};
 ghost use Rattle.host.specs.Feed.{feedFrom, numbersOf, PositionsFit, listNumber, answerCode, Small, callChecks, feedCode, feedNumbers, feedRoom};
 use cause::Cause;
 use cause::Verdict;
@@ -59,6 +60,18 @@ fn copy_moved(room: &mut [u8], list: &[u8], from: usize, to: usize)
     }
 }
 
+// Copies what both lists moved over, of which at most one has moved, to the front of lent room; answers its bytes.
+fn copy_record(room: &mut [u8], old: Feed, next: Feed, responses: &[u8], others: &[u8]) -> usize
+    requires { ⌜ Moves (now responses) (now others) old next ⌝ }
+    requires { ⌜ length (movedOver (now responses) (now others) old next) ≤ length (now room) ⌝ }
+    ensures bytes { λ r. ⌜ r ≡ length (movedOver (now (responses .entry)) (now (others .entry)) old next) ⌝ }
+    ensures room { λ _. ⌜ now (room .exit) ≡ put 0 (movedOver (now (responses .entry)) (now (others .entry)) old next) (now (room .entry)) ⌝ }
+{
+    copy_moved(room, responses, old.response, next.response);
+    copy_moved(room, others, old.other, next.other);
+    (next.response - old.response) + (next.other - old.other)
+}
+
 // The verdict on state and room of a call: causes 19 and 2.
 fn check_call(format: u32, numbers: &[u32], responses: usize, others: usize, room: usize) -> Verdict
     ensures { λ r. ⌜ r ≡ firstFault (callChecks format (now (numbers .entry)) responses others room) ⌝ }
@@ -100,8 +113,7 @@ fn encode_answer(answer: Answer, bytes: usize) -> u32
     }
 }
 
-// Asks for the next record of two waiting lists: cause · 16,777,216 + list · 65,536 + the record's bytes or the place. At most one of the
-// lists moves, and what it moves over is the record.
+// Asks for the next record of two waiting lists: cause · 16,777,216 + list · 65,536 + the record's bytes or the place.
 #[no_mangle]
 pub extern "C" fn c2c_feed(
     format: u32,
@@ -126,12 +138,8 @@ pub extern "C" fn c2c_feed(
     let asked = load_feed(feed);
     let step = asked.next_step(format, responses, others);
     let next = step.feed;
-    copy_moved(room, responses, asked.response, next.response);
-    copy_moved(room, others, asked.other, next.other);
+    let bytes = copy_record(room, asked, next, responses, others);
     store_feed(feed, next);
     let answer = step.answer;
-    encode_answer(
-        answer,
-        (next.response - asked.response) + (next.other - asked.other),
-    )
+    encode_answer(answer, bytes)
 }
