@@ -1,25 +1,38 @@
 -- The audit of entries from a fresh ledger, as numbers.
 use Prim.Native.Nat.{ℕ, _+_, _*_}
-use mathlib.Core.Bool.{not}
+use mathlib.Core.Bool.{Bool, _&&_}
 use mathlib.Core.List.{List}
-use lib.ListN.{getD}
-use lib.Dec.{eqb}
+use lib.ListN.{length, getD}
+use lib.Dec.{eqb, ltb}
+use Rattle.lists.specs.Pick.{pick}
 use Rattle.cause.specs.Causes.{causeNumber}
-use Rattle.ledger.specs.Audit.{row, freshLedger, reported}
+use Rattle.cause.specs.declared.Cause.the-variants.{InvalidState}
+use Rattle.cause.specs.declared.Verdict.{Verdict}
+use Rattle.cause.specs.declared.Verdict.the-variants.{Sound, Faulty}
+use Rattle.ledger.specs.Audit.{row, freshLedger, opening, reported}
 use Rattle.ledger.specs.Run.{runOver}
 use Rattle.ledger.specs.declared.receiver.Receiver.{Receiver}
 use Rattle.ledger.specs.declared.ledger.Ledger.{Ledger}
+use Rattle.ledger.specs.declared.ledger.Opened.{Opened}
 use Rattle.ledger.specs.declared.ledger.Answer.{Answer}
 use Rattle.ledger.specs.declared.ledger.Answer.the-variants.{Accepted, Refused}
+use Rattle.ledger.specs.declared.ledger.Reported.{Reported}
+use Rattle.ledger.specs.declared.ledger.Reported.the-variants as report
 use Rattle.ledger.specs.declared.entries.Run.{Run}
 
--- the receiver whose planes, push and 14 capacities stand from number `at` on; missing numbers are 0
+-- the receiver whose planes, push and 14 capacities stand from number `at` on
 abbrev pub receiverFrom : List ℕ → ℕ → Receiver
-receiverFrom l at = record { planes = getD l at 0; push = not (eqb (getD l (at + 1) 0) 0); capacities = row (λ p. getD l (at + 2 + p) 0) 14 0 }
+receiverFrom l at = record { planes = getD l at 0; push = eqb (getD l (at + 1) 0) 1; capacities = row (λ p. getD l (at + 2 + p) 0) 14 0 }
 
--- the fresh ledger of a format and the two receivers behind it
-abbrev pub ledgerFrom : List ℕ → Ledger
-ledgerFrom l = freshLedger (getD l 0 0) (receiverFrom l 1) (receiverFrom l 17)
+-- 33 numbers, of which both pushes are 0 or 1
+abbrev pub numbersOk : List ℕ → Bool
+numbersOk l = eqb (length l) 33 && (ltb (getD l 2 0) 2 && ltb (getD l 18 0) 2)
+
+-- the fresh ledger of a format and the two receivers behind it; numbers that are none of a configuration are 19
+abbrev pub openingFrom : List ℕ → Opened
+openingFrom l =
+    pick (numbersOk l) (opening (getD l 0 0) (receiverFrom l 1) (receiverFrom l 17))
+    (record { ledger = freshLedger (getD l 0 0) (receiverFrom l 1) (receiverFrom l 17); verdict = Faulty InvalidState 0 })
 
 -- 0, or the cause of the refusal; and its place
 abbrev pub causeOf : Answer → ℕ
@@ -30,10 +43,23 @@ abbrev pub placeOf : Answer → ℕ
 placeOf Accepted = 0
 placeOf (Refused c p) = p
 
--- credits held · 2^32 + messages open, of direction d and pool p
-abbrev pub reportNumber : Ledger → ℕ → ℕ → ℕ
-reportNumber s d p = reported s d p .held .0 * 4_294_967_296 + reported s d p .opened .0
+-- what the entries e come to from a fresh ledger
+abbrev pub runBy : Verdict → Ledger → List ℕ → Run
+runBy Sound s e = runOver s e
+runBy (Faulty c p) s e = record { ledger = s; accepted = 0; answer = Refused c p }
 
--- what the entries e come to from the ledger of the numbers l
 unfoldable pub runFrom : List ℕ → List ℕ → Run
-runFrom l e = runOver (ledgerFrom l) e
+runFrom l e = runBy (openingFrom l .verdict) (openingFrom l .ledger) e
+
+-- the report of direction d and pool p behind them
+abbrev pub reportBy : Verdict → Ledger → ℕ → ℕ → Reported
+reportBy Sound s d p = reported s d p
+reportBy (Faulty c q) s d p = report.Refused c q
+
+unfoldable pub reportFrom : List ℕ → List ℕ → ℕ → ℕ → Reported
+reportFrom l e d p = reportBy (openingFrom l .verdict) (runFrom l e .ledger) d p
+
+-- credits held · 2^32 + messages open, or cause · 2^48; the place of such a refusal is 0
+abbrev pub reportNumber : Reported → ℕ
+reportNumber (report.Counted held opened) = held .0 * 4_294_967_296 + opened .0
+reportNumber (report.Refused c p) = causeNumber c * 281_474_976_710_656

@@ -1,13 +1,19 @@
 // The audit of entries from a fresh ledger, for tests and benchmarks written in C.
 ghost use mathlib.Core.Path.{_≡_};
+ghost use mathlib.Core.Bool.{true};
 ghost use Prim.Native.Nat.{_≤_};
 ghost use lib.ListN.{getD};
-ghost use Rattle.ledger.specs.Audit.{auditing};
-ghost use Rattle.audit_probe.specs.Audit.{receiverFrom, ledgerFrom, causeOf, placeOf, reportNumber, runFrom};
+ghost use Rattle.ledger.specs.Audit.{ledgerOk, auditing};
+ghost use Rattle.ledger.specs.Run.{runOver};
+ghost use Rattle.audit_probe.specs.Audit.{receiverFrom, numbersOk, openingFrom, causeOf, placeOf, runFrom, reportFrom, reportNumber};
+use cause::Cause;
+use cause::Verdict;
 use cause::number_cause;
 use ledger::Answer;
 use ledger::Ledger;
+use ledger::Opened;
 use ledger::Receiver;
+use ledger::Reported;
 use ledger::Run;
 use ledger::Step;
 
@@ -34,27 +40,67 @@ fn load_receiver(numbers: &[u32], at: usize) -> Receiver
     }
     Receiver {
         planes: number_at(numbers, at),
-        push: number_at(numbers, at + 1) != 0,
+        push: number_at(numbers, at + 1) == 1,
         capacities: capacities,
     }
 }
 
-// The fresh ledger of a format and two receivers.
-fn load_ledger(numbers: &[u32]) -> Ledger
-    ensures { λ r. ⌜ r ≡ ledgerFrom (now (numbers .entry)) ⌝ }
+// Whether the numbers are 33 and both pushes are 0 or 1.
+fn are_numbers(numbers: &[u32]) -> bool
+    ensures { λ r. ⌜ r ≡ numbersOk (now (numbers .entry)) ⌝ }
+{
+    if numbers.len() != 33 {
+        return false;
+    }
+    if 2 <= numbers[2] {
+        return false;
+    }
+    numbers[18] < 2
+}
+
+// The fresh ledger of a format and two receivers, and whether they are valid.
+fn load_ledger(numbers: &[u32]) -> Opened
+    ensures { λ r. ⌜ r ≡ openingFrom (now (numbers .entry)) ⌝ }
 {
     let format = number_at(numbers, 0);
     let receiver0 = load_receiver(numbers, 1);
     let receiver1 = load_receiver(numbers, 17);
     let opened = Ledger::fresh(format, receiver0, receiver1);
-    opened.ledger
+    if are_numbers(numbers) {
+        return opened;
+    }
+    let ledger = opened.ledger;
+    Opened {
+        ledger: ledger,
+        verdict: Verdict::Faulty(Cause::InvalidState, 0),
+    }
+}
+
+// A ledger that is refused before any entry.
+fn refuse_run(ledger: Ledger, cause: Cause, place: u64) -> Run
+    ensures { λ r. ⌜ r ≡ record { ledger = ledger; accepted = 0; answer = Answer.Refused cause place } ⌝ }
+{
+    Run {
+        ledger: ledger,
+        accepted: 0,
+        answer: Answer::Refused {
+            cause: cause,
+            place: place,
+        },
+    }
 }
 
 // The entries audited by the one call that takes them all.
 fn run_entries(numbers: &[u32], entries: &[u8]) -> Run
     ensures { λ r. ⌜ r ≡ runFrom (now (numbers .entry)) (now (entries .entry)) ⌝ }
 {
-    load_ledger(numbers).audit_entries(entries)
+    let opened = load_ledger(numbers);
+    let ledger = opened.ledger;
+    let verdict = opened.verdict;
+    match verdict {
+        Verdict::Faulty(cause, place) => refuse_run(ledger, cause, place),
+        Verdict::Sound => ledger.audit_entries(entries),
+    }
 }
 
 // One entry.
@@ -64,11 +110,12 @@ fn audit_one(ledger: Ledger, direction: u8, container: &[u8]) -> Step
     ledger.audit(direction as u32, container)
 }
 
-// The entries audited by a call each.
-fn run_each(numbers: &[u32], entries: &[u8]) -> Run
-    ensures { λ r. ⌜ r ≡ runFrom (now (numbers .entry)) (now (entries .entry)) ⌝ }
+// The entries audited by a call each, from a ledger.
+fn run_each(first: Ledger, entries: &[u8]) -> Run
+    requires { ⌜ ledgerOk first ≡ true ⌝ }
+    ensures { λ r. ⌜ r ≡ runOver first (now (entries .entry)) ⌝ }
 {
-    let mut ledger = load_ledger(numbers);
+    let mut ledger = first;
     let mut count: usize = 0;
     let mut at: usize = 0;
     while 257 <= entries.len() - at {
@@ -90,10 +137,33 @@ fn run_each(numbers: &[u32], entries: &[u8]) -> Run
         count += 1;
         at = end;
     }
+    if at < entries.len() {
+        return Run {
+            ledger: ledger,
+            accepted: count,
+            answer: Answer::Refused {
+                cause: Cause::BrokenRecord,
+                place: at as u64,
+            },
+        };
+    }
     Run {
         ledger: ledger,
         accepted: count,
         answer: Answer::Accepted,
+    }
+}
+
+// The entries audited by a call each, from the ledger of the numbers.
+fn run_calls(numbers: &[u32], entries: &[u8]) -> Run
+    ensures { λ r. ⌜ r ≡ runFrom (now (numbers .entry)) (now (entries .entry)) ⌝ }
+{
+    let opened = load_ledger(numbers);
+    let ledger = opened.ledger;
+    let verdict = opened.verdict;
+    match verdict {
+        Verdict::Faulty(cause, place) => refuse_run(ledger, cause, place),
+        Verdict::Sound => run_each(ledger, entries),
     }
 }
 
@@ -121,7 +191,7 @@ pub extern "C" fn c2c_audit(numbers: &[u32], entries: &[u8]) -> u32
 pub extern "C" fn c2c_audit_each(numbers: &[u32], entries: &[u8]) -> u32
     ensures { λ r. ⌜ r ≡ causeOf (runFrom (now (numbers .entry)) (now (entries .entry)) .answer) ⌝ }
 {
-    tell_cause(run_each(numbers, entries))
+    tell_cause(run_calls(numbers, entries))
 }
 
 // The place of the first refusal, 0 where there is none.
@@ -146,7 +216,26 @@ pub extern "C" fn c2c_audit_count(numbers: &[u32], entries: &[u8]) -> usize
     run.accepted
 }
 
-// Credits held · 2^32 + messages open behind the entries, of one direction and pool.
+// The report of a direction and pool behind the entries.
+fn report_entries(numbers: &[u32], entries: &[u8], direction: u32, pool: u32) -> Reported
+    ensures { λ r. ⌜ r ≡ reportFrom (now (numbers .entry)) (now (entries .entry)) direction pool ⌝ }
+{
+    let opened = load_ledger(numbers);
+    let verdict = opened.verdict;
+    match verdict {
+        Verdict::Faulty(cause, place) => Reported::Refused {
+            cause: cause,
+            place: place,
+        },
+        Verdict::Sound => {
+            let run = run_entries(numbers, entries);
+            let ledger = run.ledger;
+            ledger.report(direction, pool)
+        }
+    }
+}
+
+// Credits held · 2^32 + messages open behind the entries, of one direction and pool, or cause · 2^48.
 #[no_mangle]
 pub extern "C" fn c2c_audit_report(
     numbers: &[u32],
@@ -154,12 +243,11 @@ pub extern "C" fn c2c_audit_report(
     direction: u32,
     pool: u32,
 ) -> u64
-    ensures { λ r. ⌜ r ≡ reportNumber (runFrom (now (numbers .entry)) (now (entries .entry)) .ledger) direction pool ⌝ }
+    ensures { λ r. ⌜ r ≡ reportNumber (reportFrom (now (numbers .entry)) (now (entries .entry)) direction pool) ⌝ }
 {
-    let run = run_entries(numbers, entries);
-    let ledger = run.ledger;
-    let report = ledger.report(direction, pool);
-    let held = report.held;
-    let opened = report.opened;
-    (held.0 as u64) * 4294967296 + (opened.0 as u64)
+    let reported = report_entries(numbers, entries, direction, pool);
+    match reported {
+        Reported::Refused { cause, place: _ } => number_cause(cause) as u64 * 281474976710656,
+        Reported::Counted { held, opened } => { (held.0 as u64) * 4294967296 + (opened.0 as u64) }
+    }
 }

@@ -184,8 +184,8 @@ kept-next k ended b at s h r can (onward next u) e fits keeps go =
     (go next u (omega (arith, fits .1 .1, length-drop at b))
     (record {
       few = omega arith;
+      far = omega (arith, r .far, fits .0);
       near = omega (arith, r .near, fits .1 .0);
-      begun = λ z. r .begun (omega arith);
       kept = keeps;
     }))
 

@@ -18,7 +18,7 @@ use Rattle.ledger.specs.declared.log.LogReader.{LogReader}
 use Rattle.ledger.specs.declared.log.Consumed.{Consumed}
 use Rattle.ledger.proofs.SettingLaws.{Holds, setting-holds}
 use Rattle.ledger.proofs.SettingValid.{setting-fresh}
-use Rattle.ledger.proofs.LogStates.{running-valid}
+use Rattle.ledger.proofs.LogStates.{running-begun, running-valid}
 
 -- the entries from a state on
 abbrev pub restOf : ℕ → LogReader → List ℕ → LogVerdict
@@ -28,7 +28,7 @@ restOf k s l = entriesFrom k (s .ledger) (s .entries) (s .offset) l
 pub started-runs : (b : List ℕ) (ns : List ℕ) (n : ℕ) → settingOf b ≡ set-up ns n → Running (started ns n) × (n ≤ length b)
 started-runs b ns n e =
     let h : Holds (set-up ns n) 0 33 (length b) = rw e at (setting-holds 33 (replicate 33 0) 0 0 b) in
-    (record { few = omega arith; near = omega (arith, h .1 .0); begun = λ z. omega (arith, h .0); kept = setting-fresh b ns n e }, omega (arith, h .1 .1))
+    (record { few = omega arith; far = omega (arith, h .0); near = omega (arith, h .1 .0); kept = setting-fresh b ns n e }, omega (arith, h .1 .1))
 
 module _ (s : LogReader) (b : List ℕ) (ended : Bool) where
   -- what a call on a valid state gives
@@ -54,7 +54,7 @@ module _ (s : LogReader) (b : List ℕ) (ended : Bool) where
   pub call-running : Running s → consuming s b ended ≡ readFrom (most - s .entries) ended b 0 s
   call-running r =
       call-valid (running-valid s r)
-      ∙ ap (λ (t : Bool). pick t (beginning s b ended) (readFrom (most - s .entries) ended b 0 s)) (ne-eqb (s .offset) 0 (r .begun))
+      ∙ ap (λ (t : Bool). pick t (beginning s b ended) (readFrom (most - s .entries) ended b 0 s)) (ne-eqb (s .offset) 0 (running-begun s r))
 
 module _ (s : LogReader) (l : List ℕ) where
   abbrev verdictOn : LogVerdict
@@ -75,4 +75,4 @@ module _ (s : LogReader) (l : List ℕ) where
   pub verdict-running : Running s → verdictFrom s l ≡ restOf (most - s .entries) s l
   verdict-running r =
       verdict-valid (running-valid s r)
-      ∙ ap (λ (t : Bool). pick t (verdictBy most l (settingOf l)) (restOf (most - s .entries) s l)) (ne-eqb (s .offset) 0 (r .begun))
+      ∙ ap (λ (t : Bool). pick t (verdictBy most l (settingOf l)) (restOf (most - s .entries) s l)) (ne-eqb (s .offset) 0 (running-begun s r))

@@ -160,12 +160,13 @@ module _ (b : List ℕ) (ended : Bool) (r : Consumed) (s : LogReader) (at : ℕ)
           entered-more (s .ledger) n (ap (λ (y : Entered). y .outcome) (sym entered-here) ∙ e)
           ∙ ap (λ (y : Entered). onward (y .ledger) (y .used)) (sym entered-here) in
           let few = few-here in
+          let fits = subst (λ (y : Next). Fits y (length (drop at b))) on (next-fits (s .ledger) (s .entries) (s .offset) (drop at b)) in
           record {
             within = loop-fits .1;
             running = record {
               few = omega arith;
+              far = omega (arith, h .running .far, fits .0);
               near = omega (arith, h .running .near, loop-fits .0);
-              begun = λ z. h .running .begun (omega arith);
               kept = subst Keeps on (next-keeps (s .ledger) (s .entries) (s .offset) (drop at b) (h .running .kept));
             };
             same = h .same ∙ ap (λ (k : ℕ). readFrom k ended b at s) suc-entries

@@ -1,6 +1,7 @@
 -- What keeps a ledger valid, and what a valid state of the log says. Assumes nothing.
 use Prim.Native.Nat.{ℕ, _+_, _*_, _%_, _≤_}
 use mathlib.Core.Path.{_≡_, refl, sym, ap, _∙_}
+use native.Mathlib.Omega.{arith}
 use mathlib.Core.Bool.{Bool, true, _&&_}
 use mathlib.Core.List.{List}
 use lib.ListN.{length, take, drop}
@@ -58,34 +59,39 @@ next-keeps s e o l h = keeps-framed s e o l (readNumber l) h
 
 -- ---- a state
 
-pub running-valid : (s : LogReader) → Running s → validState s ≡ true
-unfolding validState
-running-valid s r =
-    ap (λ (t : Bool). pick t (eqb (s .entries) 0) (leb (s .entries) most && (leb (s .offset) (165 + 261 * s .entries) && ledgerOk (s .ledger)))) (ne-eqb (s .offset) 0 (r .begun))
-    ∙ and-both (leb (s .entries) most) (leb (s .offset) (165 + 261 * s .entries) && ledgerOk (s .ledger)) (le-leb (s .entries) most (r .few))
-    (and-both (leb (s .offset) (165 + 261 * s .entries)) (ledgerOk (s .ledger)) (le-leb (s .offset) (165 + 261 * s .entries) (r .near)) (r .kept))
+-- the test of a state behind the configuration
+abbrev counted : LogReader → Bool
+counted s = leb (s .entries) most && (leb (33 + 257 * s .entries) (s .offset) && (leb (s .offset) (165 + 261 * s .entries) && ledgerOk (s .ledger)))
 
-valid-begun : (s : LogReader) → validState s ≡ true → (s .offset ≡ 0 → ⊥)
-    → (leb (s .entries) most && (leb (s .offset) (165 + 261 * s .entries) && ledgerOk (s .ledger))) ≡ true
+valid-begun : (s : LogReader) → (s .offset ≡ 0 → ⊥) → validState s ≡ counted s
 unfolding validState
-valid-begun s v g =
-    ap (λ (t : Bool). pick t (eqb (s .entries) 0) (leb (s .entries) most && (leb (s .offset) (165 + 261 * s .entries) && ledgerOk (s .ledger)))) (sym (ne-eqb (s .offset) 0 g)) ∙ v
+valid-begun s g = ap (λ (t : Bool). pick t (eqb (s .entries) 0) (counted s)) (ne-eqb (s .offset) 0 g)
+
+-- where its counts are in their bounds, a state is valid by its ledger
+pub valid-last : (s : LogReader) → (s .offset ≡ 0 → ⊥) → s .entries ≤ most → 33 + 257 * s .entries ≤ s .offset → s .offset ≤ 165 + 261 * s .entries
+    → validState s ≡ ledgerOk (s .ledger)
+valid-last s g few far near =
+    valid-begun s g
+    ∙ rw (le-leb (s .entries) most few, le-leb (33 + 257 * s .entries) (s .offset) far, le-leb (s .offset) (165 + 261 * s .entries) near)
+
+-- something is used behind the configuration
+pub running-begun : (s : LogReader) → Running s → s .offset ≡ 0 → ⊥
+running-begun s r z = omega (arith, r .far)
+
+pub running-valid : (s : LogReader) → Running s → validState s ≡ true
+running-valid s r = valid-last s (running-begun s r) (r .few) (r .far) (r .near) ∙ r .kept
 
 pub valid-running : (s : LogReader) → validState s ≡ true → (s .offset ≡ 0 → ⊥) → Running s
 valid-running s v g =
-    let all = valid-begun s v g in
-    let near = and-right (leb (s .entries) most) (leb (s .offset) (165 + 261 * s .entries) && ledgerOk (s .ledger)) all in
+    let all : counted s ≡ true = sym (valid-begun s g) ∙ v in
+    let few = leb (s .entries) most in
+    let far = leb (33 + 257 * s .entries) (s .offset) in
+    let near = leb (s .offset) (165 + 261 * s .entries) in
+    let behind = and-right few (far && (near && ledgerOk (s .ledger))) all in
+    let last = and-right far (near && ledgerOk (s .ledger)) behind in
     record {
-      few = leb-true (s .entries) most (and-left (leb (s .entries) most) (leb (s .offset) (165 + 261 * s .entries) && ledgerOk (s .ledger)) all);
-      near = leb-true (s .offset) (165 + 261 * s .entries) (and-left (leb (s .offset) (165 + 261 * s .entries)) (ledgerOk (s .ledger)) near);
-      begun = g;
-      kept = and-right (leb (s .offset) (165 + 261 * s .entries)) (ledgerOk (s .ledger)) near;
+      few = leb-true (s .entries) most (and-left few (far && (near && ledgerOk (s .ledger))) all);
+      far = leb-true (33 + 257 * s .entries) (s .offset) (and-left far (near && ledgerOk (s .ledger)) behind);
+      near = leb-true (s .offset) (165 + 261 * s .entries) (and-left near (ledgerOk (s .ledger)) last);
+      kept = and-right near (ledgerOk (s .ledger)) last;
     }
-
--- where its counts are in their bounds, a state is valid by its ledger
-pub valid-last : (s : LogReader) → (s .offset ≡ 0 → ⊥) → s .entries ≤ most → s .offset ≤ 165 + 261 * s .entries → validState s ≡ ledgerOk (s .ledger)
-unfolding validState
-valid-last s g few near =
-    ap (λ (t : Bool). pick t (eqb (s .entries) 0) (leb (s .entries) most && (leb (s .offset) (165 + 261 * s .entries) && ledgerOk (s .ledger)))) (ne-eqb (s .offset) 0 g)
-    ∙ ap (λ (t : Bool). t && (leb (s .offset) (165 + 261 * s .entries) && ledgerOk (s .ledger))) (le-leb (s .entries) most few)
-    ∙ ap (λ (t : Bool). t && ledgerOk (s .ledger)) (le-leb (s .offset) (165 + 261 * s .entries) near)

@@ -84,12 +84,12 @@ entries-on k s e o l next u h n = rw (ne-eqb (length l) 0 h, n)
 
 -- ---- an entry
 
--- an entry that is taken has at least a byte, at most 261, and no more than are there
+-- an entry that is taken has at least 257 bytes, at most 261, and no more than are there
 abbrev pub Fits : Next → ℕ → Type 0
 Fits (over v) m = Unit {0}
-Fits (onward next u) m = (1 ≤ u) × ((u ≤ 261) × (u ≤ m))
+Fits (onward next u) m = (257 ≤ u) × ((u ≤ 261) × (u ≤ m))
 
-fits-judged : (e u m : ℕ) (next : Ledger) (a : Answer) → 1 ≤ u → u ≤ 261 → u ≤ m → Fits (judged e u next a) m
+fits-judged : (e u m : ℕ) (next : Ledger) (a : Answer) → 257 ≤ u → u ≤ 261 → u ≤ m → Fits (judged e u next a) m
 fits-judged e u m next (answer.Refused c p) x y z = tt
 fits-judged e u m next answer.Accepted x y z = (x, (y, z))
 
@@ -98,7 +98,7 @@ fits-framed s e o l Broken h = tt
 fits-framed s e o l (Value v u) h =
     pick-by (λ (n : Next). Fits n (length l)) (ltb (length l) (u + 256)) (λ t. tt)
     (λ t. fits-judged e (u + 256) (length l) (auditing s (v % 2) (take 256 (drop u l)) .ledger) (auditing s (v % 2) (take 256 (drop u l)) .answer)
-    (omega arith) (omega (arith, h .1 .0)) (ltb-false (length l) (u + 256) t))
+    (omega (arith, h .0)) (omega (arith, h .1 .0)) (ltb-false (length l) (u + 256) t))
 
 pub next-fits : (s : Ledger) (e o : ℕ) (l : List ℕ) → Fits (nextOf s e o l) (length l)
 unfolding nextOf

@@ -23,7 +23,8 @@ use Rattle.ledger.specs.declared.ledger.Answer.{Answer}
 use Rattle.ledger.specs.declared.ledger.Answer.the-variants as answer
 use Rattle.ledger.specs.declared.ledger.Step.{Step}
 use Rattle.ledger.specs.declared.ledger.Opened.{Opened}
-use Rattle.ledger.specs.declared.ledger.Report.{Report}
+use Rattle.ledger.specs.declared.ledger.Reported.{Reported}
+use Rattle.ledger.specs.declared.ledger.Reported.the-variants as report
 
 -- the receiver of direction d, and the reader of its containers
 abbrev pub receiverOf : Ledger → ℕ → Receiver
@@ -165,8 +166,8 @@ configured f a b = ltb f 2 && (receiverOk a && receiverOk b)
 abbrev pub opening : ℕ → Receiver → Receiver → Opened
 opening f a b = record { ledger = freshLedger f a b; verdict = pick (configured f a b) Sound (Faulty InvalidState 0) }
 
--- the report of direction d and pool p: granted minus begun, and begun minus finished; 0 where there is no such pool
-abbrev pub reported : Ledger → ℕ → ℕ → Report
+-- the report of direction d and pool p: granted minus begun, and begun minus finished; a direction or pool that is none, and a ledger that
+-- is not valid, are 19
+abbrev pub reported : Ledger → ℕ → ℕ → Reported
 reported s d p =
-    pick (ltb d 2 && ltb p 14) (record { held = record { 0 = heldOf s d p }; opened = record { 0 = openOf s d p } })
-    (record { held = record { 0 = 0 }; opened = record { 0 = 0 } })
+    pick (ltb d 2 && (ltb p 14 && ledgerOk s)) (report.Counted (record { 0 = heldOf s d p }) (record { 0 = openOf s d p })) (report.Refused InvalidState 0)

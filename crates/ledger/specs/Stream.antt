@@ -79,19 +79,20 @@ startBy s b ended (set-up ns n) = readFrom most ended b n (started ns n)
 abbrev pub beginning : LogReader → List ℕ → Bool → Consumed
 beginning s b ended = pick (pick ended true (leb 261 (length b))) (startBy s b ended (settingOf b)) (stoppedAt 0 s More)
 
--- a valid state behind the configuration: a valid ledger, no more than 16,777,215 entries, and no more bytes than they and the
--- configuration may have
+-- a valid state behind the configuration: a valid ledger, no more than 16,777,215 entries, and as many bytes as they and the
+-- configuration may have: 33 to 165 the configuration, 257 to 261 an entry
 pub record Running (s : LogReader) : Type 0 where
   pub few : s .entries ≤ most
+  pub far : 33 + 257 * s .entries ≤ s .offset
   pub near : s .offset ≤ 165 + 261 * s .entries
-  pub begun : s .offset ≡ 0 → ⊥
   pub kept : ledgerOk (s .ledger) ≡ true
 
 -- a valid state: before the configuration nothing is accepted or used
 unfoldable pub validState : LogReader → Bool
 validState s =
     pick (eqb (s .offset) 0) (eqb (s .entries) 0)
-    (leb (s .entries) most && (leb (s .offset) (165 + 261 * s .entries) && ledgerOk (s .ledger)))
+    (leb (s .entries) most
+    && (leb (33 + 257 * s .entries) (s .offset) && (leb (s .offset) (165 + 261 * s .entries) && ledgerOk (s .ledger))))
 
 -- one call; a state that is not valid is 19
 unfoldable pub consuming : LogReader → List ℕ → Bool → Consumed

@@ -36,7 +36,7 @@ fn charge_granule(
 }
 
 // The messages that start, in granule order.
-pub fn tally_begun(receiver: Receiver, starts: u16, container: &[u8]) -> Tally
+pub(crate) fn tally_begun(receiver: Receiver, starts: u16, container: &[u8]) -> Tally
     requires { ⌜ length (now container) ≡ 256 ⌝ }
     ensures { λ r. ⌜ Tallied (startsChecks receiver (now (container .entry)) starts 12 0) (startsPay (now (container .entry)) starts 12 0) r ⌝ }
 {

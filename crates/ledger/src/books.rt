@@ -12,7 +12,7 @@ use cause::Cause;
 use cause::Verdict;
 
 // The lowest pool in which more is begun than held.
-pub fn judge_begun(held: [[u32; 14]; 2], direction: usize, begun: [u32; 14]) -> Verdict
+pub(crate) fn judge_begun(held: [[u32; 14]; 2], direction: usize, begun: [u32; 14]) -> Verdict
     requires { ⌜ direction < 2 ⌝ }
     ensures { λ r. ⌜ r ≡ firstFault (shortChecks (getD held direction []) begun 14 0) ⌝ }
 {
@@ -27,7 +27,7 @@ pub fn judge_begun(held: [[u32; 14]; 2], direction: usize, begun: [u32; 14]) -> 
 }
 
 // The lowest pool in which held, granted and open together are over the capacity.
-pub fn judge_granted(
+pub(crate) fn judge_granted(
     held: [[u32; 14]; 2],
     opened: [[u32; 14]; 2],
     direction: usize,
@@ -50,7 +50,7 @@ pub fn judge_granted(
 }
 
 // Whether open messages are what the carry pays and held plus open is within capacity, in every pool.
-pub fn keeps_books(
+pub(crate) fn keeps_books(
     held: [[u32; 14]; 2],
     opened: [[u32; 14]; 2],
     direction: usize,
@@ -92,7 +92,7 @@ fn spend_credits(held: Credits, charge: Credits) -> Credits
 }
 
 // Credits held behind an entry: fewer where messages began, more in the other direction.
-pub fn settle_held(
+pub(crate) fn settle_held(
     held: [[u32; 14]; 2],
     direction: usize,
     begun: [u32; 14],
@@ -115,7 +115,11 @@ pub fn settle_held(
 }
 
 // Messages open behind an entry: in its direction, what the carry pays.
-pub fn settle_opened(opened: [[u32; 14]; 2], direction: usize, paid: [u32; 14]) -> [[u32; 14]; 2]
+pub(crate) fn settle_opened(
+    opened: [[u32; 14]; 2],
+    direction: usize,
+    paid: [u32; 14],
+) -> [[u32; 14]; 2]
     requires { ⌜ direction < 2 ⌝ }
     ensures { λ r. ⌜ r ≡ rows (settledOpen direction opened paid) ⌝ }
 {

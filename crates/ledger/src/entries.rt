@@ -3,7 +3,7 @@ ghost use mathlib.Core.Path.{_≡_};
 ghost use mathlib.Core.Bool.{true};
 ghost use lib.ListN.{length};
 ghost use Rattle.ledger.specs.Audit.{ledgerOk, auditing};
-ghost use Rattle.ledger.specs.Run.{runOver};
+ghost use Rattle.ledger.specs.Run.{running, runOver};
 use crate::ledger::Answer;
 use crate::ledger::Ledger;
 use crate::ledger::Step;
@@ -14,6 +14,20 @@ pub struct Run {
     pub ledger: Ledger,
     pub accepted: usize,
     pub answer: Answer,
+}
+
+// A refusal behind so many accepted entries.
+fn refuse_run(ledger: Ledger, accepted: usize, cause: Cause, place: u64) -> Run
+    ensures { λ r. ⌜ r ≡ record { ledger = ledger; accepted = accepted; answer = Answer.Refused cause place } ⌝ }
+{
+    Run {
+        ledger: ledger,
+        accepted: accepted,
+        answer: Answer::Refused {
+            cause: cause,
+            place: place,
+        },
+    }
 }
 
 // One entry, from a valid ledger.
@@ -36,7 +50,7 @@ fn audit_entry(ledger: Ledger, direction: u8, container: &[u8]) -> Step
 // The entries of a list, each a direction and the 256 bytes of a container, from a valid ledger.
 fn audit_listed(ledger: Ledger, entries: &[u8]) -> Run
     requires { ⌜ ledgerOk ledger ≡ true ⌝ }
-    ensures { λ r. ⌜ r ≡ runOver ledger (now (entries .entry)) ⌝ }
+    ensures { λ r. ⌜ r ≡ running (length (now (entries .entry))) ledger 0 (now (entries .entry)) ⌝ }
 {
     let mut state = ledger;
     let mut count: usize = 0;
@@ -60,6 +74,9 @@ fn audit_listed(ledger: Ledger, entries: &[u8]) -> Run
         count += 1;
         at = end;
     }
+    if at < entries.len() {
+        return refuse_run(state, count, Cause::BrokenRecord, at as u64);
+    }
     Run {
         ledger: state,
         accepted: count,
@@ -68,27 +85,13 @@ fn audit_listed(ledger: Ledger, entries: &[u8]) -> Run
 }
 
 impl Ledger {
-    // Audits the entries of a list, up to the first that is refused.
+    // Audits the entries of a list, up to the first that is refused; an entry that is cut short is refused too.
     pub fn audit_entries(self, entries: &[u8]) -> Run
         ensures { λ r. ⌜ r ≡ runOver self (now (entries .entry)) ⌝ }
     {
         if self.is_valid() {
             return audit_listed(self, entries);
         }
-        if entries.len() < 257 {
-            return Run {
-                ledger: self,
-                accepted: 0,
-                answer: Answer::Accepted,
-            };
-        }
-        Run {
-            ledger: self,
-            accepted: 0,
-            answer: Answer::Refused {
-                cause: Cause::InvalidState,
-                place: 0,
-            },
-        }
+        refuse_run(self, 0, Cause::InvalidState, 0)
     }
 }

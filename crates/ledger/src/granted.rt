@@ -100,7 +100,12 @@ fn grant_granule(
 }
 
 // The grants of an entry: the header's, then the CrdtGrants in granule order.
-pub fn tally_granted(receiver: Receiver, grant: Grant, starts: u16, container: &[u8]) -> Tally
+pub(crate) fn tally_granted(
+    receiver: Receiver,
+    grant: Grant,
+    starts: u16,
+    container: &[u8],
+) -> Tally
     requires { ⌜ (length (now container) ≡ 256) × (grant .rp < 8) ⌝ }
     ensures { λ r. ⌜ Tallied (grantChecks receiver grant ++ crdtChecks receiver (now (container .entry)) starts 12 0) (λ p. grantedBy p grant + crdtGives (now (container .entry)) starts 12 0 p) r ⌝ }
 {

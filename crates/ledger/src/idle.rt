@@ -40,7 +40,7 @@ fn is_idle_y(container: &[u8]) -> bool
 }
 
 // Whether a container has nothing but zeros outside the link header.
-pub fn is_idle(format: u32, container: &[u8]) -> bool
+pub(crate) fn is_idle(format: u32, container: &[u8]) -> bool
     requires { ⌜ length (now container) ≡ 256 ⌝ }
     ensures { λ r. ⌜ r ≡ idleFrom (formatOf format .link) (now (container .entry)) 0 ⌝ }
 {

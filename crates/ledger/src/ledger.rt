@@ -64,10 +64,20 @@ pub struct Opened {
     pub verdict: Verdict,
 }
 
-// The credits held and the slots of open messages, of one direction and pool.
-pub struct Report {
-    pub held: Credits,
-    pub opened: Slots,
+// The answer of a report: the credits held and the slots of open messages, of one direction and pool.
+pub enum Reported {
+    Counted { held: Credits, opened: Slots },
+    Refused { cause: Cause, place: u64 },
+}
+
+// The report of a direction or pool that is none, or of a ledger that is not valid.
+fn refuse_report() -> Reported
+    ensures { λ r. ⌜ r ≡ Reported.Refused Cause.InvalidState 0 ⌝ }
+{
+    Reported::Refused {
+        cause: Cause::InvalidState,
+        place: 0,
+    }
 }
 
 // Whether a format and receivers are valid.
@@ -352,26 +362,23 @@ impl Ledger {
         self.audit_valid(direction as usize, container)
     }
 
-    // The credits held and the messages open of a direction and pool, 0 where there is no such.
-    pub fn report(self, direction: u32, pool: u32) -> Report
+    // The credits held and the messages open of a direction and pool.
+    pub fn report(self, direction: u32, pool: u32) -> Reported
         ensures { λ r. ⌜ r ≡ reported self direction pool ⌝ }
     {
         if 2 <= direction {
-            return Report {
-                held: Credits(0),
-                opened: Slots(0),
-            };
+            return refuse_report();
         }
         if 14 <= pool {
-            return Report {
-                held: Credits(0),
-                opened: Slots(0),
+            return refuse_report();
+        }
+        if self.is_valid() {
+            let i = (14 * direction + pool) as usize;
+            return Reported::Counted {
+                held: Credits(self.held[i]),
+                opened: Slots(self.opened[i]),
             };
         }
-        let i = (14 * direction + pool) as usize;
-        Report {
-            held: Credits(self.held[i]),
-            opened: Slots(self.opened[i]),
-        }
+        refuse_report()
     }
 }

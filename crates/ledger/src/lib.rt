@@ -18,7 +18,7 @@ pub use kinds::Slots;
 pub use ledger::Answer;
 pub use ledger::Ledger;
 pub use ledger::Opened;
-pub use ledger::Report;
+pub use ledger::Reported;
 pub use ledger::Step;
 pub use log::Consumed;
 pub use log::LogReader;

@@ -237,6 +237,9 @@ impl LogReader {
         if MOST < entries {
             return false;
         }
+        if offset < 33 + 257 * (entries as u64) {
+            return false;
+        }
         if 165 + 261 * (entries as u64) < offset {
             return false;
         }

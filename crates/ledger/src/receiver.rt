@@ -150,7 +150,7 @@ impl Receiver {
     }
 
     // The pools of a message of this type, by its bytes 0 and 1: REQ before DAT.
-    pub fn judge_payment(self, kind: u8, first: u8, second: u8) -> Verdict
+    pub(crate) fn judge_payment(self, kind: u8, first: u8, second: u8) -> Verdict
         ensures { λ r. ⌜ r ≡ firstFault (paymentChecks self kind first second) ⌝ }
     {
         if self.has_every_pool(first) {
@@ -160,7 +160,7 @@ impl Receiver {
     }
 
     // The pools of a grant: the plane before DAT.
-    pub fn judge_grant(self, grant: Grant) -> Verdict
+    pub(crate) fn judge_grant(self, grant: Grant) -> Verdict
         ensures { λ r. ⌜ r ≡ firstFault (grantChecks self grant) ⌝ }
     {
         if grant.shc {

@@ -5,7 +5,7 @@ ghost use lib.ListN.{length, take, drop};
 ghost use Rattle.ledger.specs.Counting.{nested, flattened};
 
 // Fourteen numbers of a list, from `start` on.
-pub fn take_row(list: &[u32], start: usize) -> [u32; 14]
+pub(crate) fn take_row(list: &[u32], start: usize) -> [u32; 14]
     requires { ⌜ start + 14 ≤ length (now list) ⌝ }
     ensures { λ r. ⌜ r ≡ take 14 (drop start (now (list .entry))) ⌝ }
 {

@@ -25,7 +25,7 @@ pub struct Tally {
 }
 
 // Adds to the count of one pool.
-pub fn add_count(counts: &mut [u32], pool: u8, amount: u32)
+pub(crate) fn add_count(counts: &mut [u32], pool: u8, amount: u32)
     requires { ⌜ (length (now counts) ≡ 14) × (pool < 14) ⌝ }
     requires { ⌜ getD (now counts) pool 0 + amount < 2 ^ 32 ⌝ }
     ensures { λ _. ⌜ now (counts .exit) ≡ raised (λ p. pick (eqb pool p) amount 0) (now (counts .entry)) ⌝ }
@@ -35,7 +35,7 @@ pub fn add_count(counts: &mut [u32], pool: u8, amount: u32)
 }
 
 // Adds what a message pays, by its bytes 0 and 1.
-pub fn add_payment(counts: &mut [u32], first: u8, second: u8)
+pub(crate) fn add_payment(counts: &mut [u32], first: u8, second: u8)
     requires { ⌜ (length (now counts) ≡ 14) × Small (now counts) ⌝ }
     ensures { λ _. ⌜ now (counts .exit) ≡ raised (λ p. chargedTo p (listed (chargesBy (first % 16) first second))) (now (counts .entry)) ⌝ }
 {
@@ -76,7 +76,7 @@ fn count_type(types: u16, kind: u8) -> u32
 }
 
 // Adds the same as `add_payment` without a test of the type, for the granule pass.
-pub fn add_charges(counts: &mut [u32], first: u8, second: u8)
+pub(crate) fn add_charges(counts: &mut [u32], first: u8, second: u8)
     requires { ⌜ (length (now counts) ≡ 14) × Small (now counts) ⌝ }
     ensures { λ _. ⌜ now (counts .exit) ≡ raised (λ p. chargedTo p (listed (chargesBy (first % 16) first second))) (now (counts .entry)) ⌝ }
 {
@@ -89,7 +89,7 @@ pub fn add_charges(counts: &mut [u32], first: u8, second: u8)
 }
 
 // Byte 0 of what starts in granule g, 0 where nothing does.
-pub fn read_start(container: &[u8], starts: u16, g: u8) -> u8
+pub(crate) fn read_start(container: &[u8], starts: u16, g: u8) -> u8
     requires { ⌜ (length (now container) ≡ 256) × (g < 12) ⌝ }
     ensures { λ r. ⌜ r ≡ startedAt (now (container .entry)) starts g ⌝ }
 {

@@ -107,7 +107,7 @@ fn goes_on(size: usize, owed: usize) -> bool
 }
 
 // Granule g of a container, with so many bytes owed of the message in progress.
-pub fn judge_cell(format: u32, starts: u16, container: &[u8], owed: usize, g: u8) -> Finding
+pub(crate) fn judge_cell(format: u32, starts: u16, container: &[u8], owed: usize, g: u8) -> Finding
     requires { ⌜ (length (now container) ≡ 256) × (g < 12) ⌝ }
     ensures { λ r. ⌜ r ≡ finding (formatOf format) g (cellFrom (ltb 0 owed && wide (formatOf format) g) (bit starts g) (granule (formatOf format) g (now (container .entry)))) ⌝ }
 {

@@ -10,7 +10,7 @@ use container::locate_granule;
 use container::measure_granule;
 
 // Copies a part into lent memory from an offset on.
-pub fn copy_part(out: &mut [u8], at: usize, part: &[u8])
+pub(crate) fn copy_part(out: &mut [u8], at: usize, part: &[u8])
     requires { ⌜ at + length (now part) ≤ length (now out) ⌝ }
     ensures { λ _. ⌜ now (out .exit) ≡ put at (now (part .entry)) (now (out .entry)) ⌝ }
 {
@@ -22,7 +22,7 @@ pub fn copy_part(out: &mut [u8], at: usize, part: &[u8])
 }
 
 // Copies the wide ones among `count` granules from `from` on into lent memory from an offset on.
-pub fn gather_granules(
+pub(crate) fn gather_granules(
     format: u32,
     container: &[u8],
     from: u8,
@@ -49,7 +49,7 @@ pub fn gather_granules(
 }
 
 // Copies the message in progress, read up to granule g, into lent memory from an offset on.
-pub fn gather_message(
+pub(crate) fn gather_message(
     format: u32,
     container: &[u8],
     carry: &[u8],
@@ -70,7 +70,7 @@ pub fn gather_message(
 }
 
 // What is carried on of the message in progress behind a container, with zeros behind it.
-pub fn gather_carry(format: u32, container: &[u8], carry: &[u8], track: Track) -> [u8; 100]
+pub(crate) fn gather_carry(format: u32, container: &[u8], carry: &[u8], track: Track) -> [u8; 100]
     requires { ⌜ (length (now container) ≡ 256) × (track .kept ≤ length (now carry)) ⌝ }
     requires { ⌜ track .from ≤ 12 ⌝ }
     requires { ⌜ length (inProgress (formatOf format) (now container) (now carry) track 12) ≤ 100 ⌝ }

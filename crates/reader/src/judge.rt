@@ -59,7 +59,7 @@ fn judge_marks(grant: Grant, marks: [u8; 12]) -> Verdict
 }
 
 // A container of 256 bytes, with its MsgStart and its header grant.
-pub fn judge_container(
+pub(crate) fn judge_container(
     format: u32,
     starts: u16,
     grant: Grant,

@@ -90,7 +90,7 @@ fn write_ending(
 }
 
 // Writes the messages that end in a container as records at the front of the room, and answers their length.
-pub fn write_endings(
+pub(crate) fn write_endings(
     format: u32,
     starts: u16,
     container: &[u8],

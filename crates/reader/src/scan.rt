@@ -17,7 +17,7 @@ pub struct Scan {
 }
 
 // All granules of a container, upwards.
-pub fn scan_granules(format: u32, starts: u16, container: &[u8], carry: &[u8]) -> Scan
+pub(crate) fn scan_granules(format: u32, starts: u16, container: &[u8], carry: &[u8]) -> Scan
     requires { ⌜ length (now container) ≡ 256 ⌝ }
     requires { ⌜ starts ≡ msgStart (formatOf format) (now container) ⌝ }
     requires { ⌜ Begun (now carry) ⌝ }

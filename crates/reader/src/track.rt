@@ -55,7 +55,7 @@ impl Track {
     }
 
     // How many bytes of it were read.
-    pub fn count_read(self) -> usize
+    pub(crate) fn count_read(self) -> usize
         requires { ⌜ self .owed ≤ self .size ⌝ }
         ensures { λ r. ⌜ r ≡ pick (eqb (self .owed) 0) 0 (self .size - self .owed) ⌝ }
     {
@@ -112,7 +112,7 @@ impl Track {
     }
 
     // The message in progress after granule g.
-    pub fn pass(self, format: u32, starts: u16, container: &[u8], g: u8) -> Track
+    pub(crate) fn pass(self, format: u32, starts: u16, container: &[u8], g: u8) -> Track
         requires { ⌜ (length (now container) ≡ 256) × (g < 12) ⌝ }
         ensures { λ r. ⌜ r ≡ trackAfter (formatOf format) (now (container .entry)) starts g self ⌝ }
     {

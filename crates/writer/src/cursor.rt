@@ -263,7 +263,7 @@ fn cut_end(from: usize, end: usize, width: usize) -> usize
 }
 
 // Fills all granules of a container, upwards, over zeros.
-pub fn fill_granules(
+pub(crate) fn fill_granules(
     format: u32,
     grant: Grant,
     tail: &[u8],

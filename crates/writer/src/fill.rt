@@ -24,7 +24,7 @@ fn copy_and_zero(part: &mut [u8], src: &[u8], size: usize)
 }
 
 // Fills granule g with src and zeros behind it.
-pub fn fill_granule(container: &mut [u8], format: u32, g: u8, src: &[u8])
+pub(crate) fn fill_granule(container: &mut [u8], format: u32, g: u8, src: &[u8])
     requires { ⌜ (length (now container) ≡ 256) × (g < 12) ⌝ }
     requires { ⌜ length (now src) ≤ formatOf format .size g ⌝ }
     ensures { λ _. ⌜ now (container .exit) ≡ put (start g) (pad (formatOf format .size g) (now (src .entry))) (now (container .entry)) ⌝ }
@@ -68,7 +68,7 @@ fn form_header(starts: u16, grant: Grant, i: u8) -> u8
 }
 
 // Writes the header bytes, each at its place.
-pub fn write_header(container: &mut [u8], format: u32, starts: u16, grant: Grant)
+pub(crate) fn write_header(container: &mut [u8], format: u32, starts: u16, grant: Grant)
     requires { ⌜ length (now container) ≡ 256 ⌝ }
     requires { ⌜ (starts < 4096) × (grant .rp < 8) ⌝ }
     ensures { λ _. ⌜ now (container .exit) ≡ setAll (formatOf format .place) 0 (headerBytes grant starts) (now (container .entry)) ⌝ }

@@ -33,7 +33,7 @@ impl Group {
     }
 
     // The group behind the cell of granule g, with so many MiscU and responses starting there.
-    pub fn add(self, g: u8, populated: bool, miscs: u32, responses: u32) -> Group
+    pub(crate) fn add(self, g: u8, populated: bool, miscs: u32, responses: u32) -> Group
         requires { ⌜ (self .miscs ≤ 1000) × (self .responses ≤ 1000) × (miscs ≤ 1) × (responses ≤ 2) ⌝ }
         ensures { λ r. ⌜ r ≡ groupNext g self populated miscs responses ⌝ }
     {
@@ -62,7 +62,7 @@ impl Group {
     }
 
     // Whether a message of this type and op may start at granule g, beside this header grant.
-    pub fn admits(self, format: u32, grant: Grant, g: u8, kind: u8, op: u8) -> bool
+    pub(crate) fn admits(self, format: u32, grant: Grant, g: u8, kind: u8, op: u8) -> bool
         requires { ⌜ (self .miscs ≤ 1000) × (self .responses ≤ 1000) ⌝ }
         ensures { λ r. ⌜ r ≡ legalBy (formatOf format) grant g self kind op ⌝ }
     {
@@ -78,7 +78,7 @@ impl Group {
     }
 
     // Whether a message of this type and op may lie in granule g beneath what is owed: an Activation never does.
-    pub fn admits_beneath(self, format: u32, grant: Grant, g: u8, kind: u8, op: u8) -> bool
+    pub(crate) fn admits_beneath(self, format: u32, grant: Grant, g: u8, kind: u8, op: u8) -> bool
         requires { ⌜ (self .miscs ≤ 1000) × (self .responses ≤ 1000) ⌝ }
         ensures { λ r. ⌜ r ≡ beneathBy (formatOf format) grant g self kind op ⌝ }
     {

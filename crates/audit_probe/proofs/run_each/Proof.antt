@@ -4,22 +4,19 @@ use mathlib.Core.Path.{_∙_}
 use native.Mathlib.Omega.{arith}
 use lib.ListN.{length}
 use borrow.Author.Needs.{needs}
-use Rattle.ledger.proofs.RunLaws.{Running, running-none, running-ends, running-refused, running-more, entry-at}
-use Rattle.audit_probe.proofs.AuditLaws.{run-from}
+use Rattle.ledger.proofs.RunLaws.{Running, running-none, running-ends, running-cut, running-refused, running-more, entry-at}
+use Rattle.audit_probe.proofs.AuditLaws.{run-valid}
 use Rattle.audit_probe.proofs.run_each.Statement.{statement}
 use Rattle.audit_probe.proofs.run_each.Tie as tie
 
 abbrev Inv-loop : tie.InvT-loop
-Inv-loop numbers entries ledger₀ count₀ at₀ ledger count at = Running ledger₀ entries ledger count at
+Inv-loop entries ledger₀ count₀ at₀ ledger count at = Running ledger₀ entries ledger count at
 
 abbrev μ-loop : tie.MeasureT-loop
-μ-loop numbers entries ledger₀ count₀ at₀ ledger count at = length entries - at
-
-load-ledger-requires : tie.Need-load-ledger-requires Inv-loop μ-loop
-load-ledger-requires c κs = search needs
+μ-loop entries ledger₀ count₀ at₀ ledger count at = length entries - at
 
 loop-holds : tie.Need-loop-holds Inv-loop μ-loop
-loop-holds c = running-none (c .load-ledger .result) (c .before .before .before .args .entries .now)
+loop-holds c = running-none (c .before .args .first) (c .before .args .entries .now)
 
 sub-loop : tie.Need-sub-loop Inv-loop μ-loop
 sub-loop c = let i = c .loop .inv .inside in omega arith
@@ -52,15 +49,14 @@ returns : tie.Need-returns Inv-loop μ-loop
 returns c =
     let entry = c .before .before in
     let at-loop = entry .before .before .before .before in
-    let load = at-loop .before in
-    let start = load .before .before .before in
+    let start = at-loop .before .before in
     let l = start .args .entries .now in
     let r = at-loop .loop .inv in
     let i = r .inside in
     let e = entry .audit-one .ensures ∙ entry-at (at-loop .loop .ledger) l (at-loop .loop .count) (at-loop .loop .at) (r .place) in
     rw (c .enum-told .given .1)
-    (running-refused (load .load-ledger .result) l (at-loop .loop .ledger) (at-loop .loop .count) (at-loop .loop .at) r (omega arith) (entry .audit-one .result) e _ _ (c .enum-told .given .1)
-    ∙ run-from (start .args .numbers .now) l (load .load-ledger .result) (load .load-ledger .ensures))
+    (running-refused (start .args .first) l (at-loop .loop .ledger) (at-loop .loop .count) (at-loop .loop .at) r (omega arith) (entry .audit-one .result) e _ _ (c .enum-told .given .1)
+    ∙ run-valid (start .args .first) l (start .pre))
 
 enum-told-2 : tie.Need-enum-told-2 Inv-loop μ-loop
 enum-told-2 c = search needs
@@ -75,23 +71,30 @@ loop-again : tie.Need-loop-again Inv-loop μ-loop
 loop-again c =
     let entry = c .before .before .before in
     let at-loop = entry .before .before .before .before in
-    let load = at-loop .before in
-    let l = load .before .before .before .args .entries .now in
-    let r = at-loop .loop .inv in
-    let i = r .inside in
-    let e = entry .audit-one .ensures ∙ entry-at (at-loop .loop .ledger) l (at-loop .loop .count) (at-loop .loop .at) (r .place) in
-    running-more (load .load-ledger .result) l (at-loop .loop .ledger) (at-loop .loop .count) (at-loop .loop .at) r (omega arith) (entry .audit-one .result) e (c .before .enum-told2 .given .1)
-
-returns-2 : tie.Need-returns-2 Inv-loop μ-loop
-returns-2 c =
-    let at-loop = c .before in
-    let load = at-loop .before in
-    let start = load .before .before .before in
+    let start = at-loop .before .before in
     let l = start .args .entries .now in
     let r = at-loop .loop .inv in
     let i = r .inside in
-    running-ends (load .load-ledger .result) l (at-loop .loop .ledger) (at-loop .loop .count) (at-loop .loop .at) r (omega arith)
-    ∙ run-from (start .args .numbers .now) l (load .load-ledger .result) (load .load-ledger .ensures)
+    let e = entry .audit-one .ensures ∙ entry-at (at-loop .loop .ledger) l (at-loop .loop .count) (at-loop .loop .at) (r .place) in
+    running-more (start .args .first) l (at-loop .loop .ledger) (at-loop .loop .count) (at-loop .loop .at) r (omega arith) (entry .audit-one .result) e (c .before .enum-told2 .given .1)
+
+returns-2 : tie.Need-returns-2 Inv-loop μ-loop
+returns-2 c =
+    let at-loop = c .before .before in
+    let start = at-loop .before .before in
+    let l = start .args .entries .now in
+    let r = at-loop .loop .inv in
+    let i = r .inside in
+    running-cut (start .args .first) l (at-loop .loop .ledger) (at-loop .loop .count) (at-loop .loop .at) r (c .if1 .taken) (omega arith)
+    ∙ run-valid (start .args .first) l (start .pre)
+
+returns-3 : tie.Need-returns-3 Inv-loop μ-loop
+returns-3 c =
+    let at-loop = c .before .before in
+    let start = at-loop .before .before in
+    let l = start .args .entries .now in
+    running-ends (start .args .first) l (at-loop .loop .ledger) (at-loop .loop .count) (at-loop .loop .at) (at-loop .loop .inv) (c .if1 .left)
+    ∙ run-valid (start .args .first) l (start .pre)
 
 pub run-each-spec : {M : Type 1} → statement M
 run-each-spec =
@@ -99,7 +102,6 @@ run-each-spec =
     (tie.spec
     Inv-loop
     μ-loop
-    load-ledger-requires
     loop-holds
     sub-loop
     add-begin
@@ -115,4 +117,5 @@ run-each-spec =
     add-count
     loop-less
     loop-again
-    returns-2)
+    returns-2
+    returns-3)

@@ -6,7 +6,7 @@ use native.Mathlib.Omega.{arith}
 use lib.ListN.{length}
 use borrow.Author.Needs.{needs}
 use Rattle.ledger.specs.Audit.{ledgerOk}
-use Rattle.ledger.proofs.RunLaws.{Running, running-none, running-ends, running-refused, running-more, running-valid, entry-at, entry-long}
+use Rattle.ledger.proofs.RunLaws.{Running, running-none, running-ends, running-cut, running-refused, running-more, running-valid, entry-at, entry-long}
 use Rattle.ledger.proofs.entries.audit_listed.Statement.{statement}
 use Rattle.ledger.proofs.entries.audit_listed.Tie as tie
 
@@ -83,13 +83,23 @@ loop-again c =
       running-valid (start .args .ledger) l (at-loop .loop .state) (at-loop .loop .count) (at-loop .loop .at) r h (entry .audit-entry .result) e (c .before .enum-told2 .given .1),
     )
 
+refuse-run-requires : tie.Need-refuse-run-requires Inv-loop μ-loop
+refuse-run-requires c κs = search needs
+
 returns-2 : tie.Need-returns-2 Inv-loop μ-loop
 returns-2 c =
-    let at-loop = c .before in
+    let at-loop = c .before .before .before in
     let start = at-loop .before .before in
     let r = at-loop .loop .inv .0 in
     let i = r .inside in
-    running-ends (start .args .ledger) (start .args .entries .now) (at-loop .loop .state) (at-loop .loop .count) (at-loop .loop .at) r (omega arith)
+    c .refuse-run .ensures
+    ∙ running-cut (start .args .ledger) (start .args .entries .now) (at-loop .loop .state) (at-loop .loop .count) (at-loop .loop .at) r (c .before .if1 .taken) (omega arith)
+
+returns-3 : tie.Need-returns-3 Inv-loop μ-loop
+returns-3 c =
+    let at-loop = c .before .before in
+    let start = at-loop .before .before in
+    running-ends (start .args .ledger) (start .args .entries .now) (at-loop .loop .state) (at-loop .loop .count) (at-loop .loop .at) (at-loop .loop .inv .0) (c .if1 .left)
 
 pub audit-listed-spec : {M : Type 1} → statement M
 audit-listed-spec =
@@ -112,4 +122,6 @@ audit-listed-spec =
     add-count
     loop-less
     loop-again
-    returns-2)
+    refuse-run-requires
+    returns-2
+    returns-3)

@@ -1,8 +1,6 @@
 -- `ledger::ledger::Ledger::audit_entries` meets its contract.
 use mathlib.Core.Path.{sym, _∙_}
-use native.Mathlib.Omega.{arith}
 use borrow.Author.Needs.{needs}
-use Rattle.ledger.proofs.RunLaws.{run-ends, run-not-valid}
 use Rattle.ledger.proofs.ledger.Ledger.audit_entries.Statement.{statement}
 use Rattle.ledger.proofs.ledger.Ledger.audit_entries.Tie as tie
 
@@ -13,19 +11,15 @@ audit-listed-requires : tie.Need-audit-listed-requires
 audit-listed-requires c κs = sym (c .before .is-valid .ensures) ∙ c .if1 .taken
 
 returns : tie.Need-returns
-returns c = search needs
+returns c = rw (sym (c .before .before .is-valid .ensures) ∙ c .before .if1 .taken) (c .audit-listed .ensures)
+
+refuse-run-requires : tie.Need-refuse-run-requires
+refuse-run-requires c κs = search needs
 
 returns-2 : tie.Need-returns-2
-returns-2 c =
-    let start = c .before .before .before .before in
-    let h = c .if2 .taken in
-    run-ends (start .args .self) 0 (start .args .entries .now) _ (omega arith)
-
-returns-3 : tie.Need-returns-3
-returns-3 c =
-    let start = c .before .before .before .before in
-    run-not-valid (start .args .self) (start .args .entries .now) (sym (c .before .before .is-valid .ensures) ∙ c .before .if1 .left) (c .if2 .left)
+returns-2 c = rw (sym (c .before .before .is-valid .ensures) ∙ c .before .if1 .left) (c .refuse-run .ensures)
 
 pub audit-entries-spec : {M : Type 1} → statement M
 audit-entries-spec =
-    tie.close (tie.spec is-valid-requires audit-listed-requires returns returns-2 returns-3)
+    tie.close
+    (tie.spec is-valid-requires audit-listed-requires returns refuse-run-requires returns-2)
