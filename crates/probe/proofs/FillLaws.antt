@@ -1,13 +1,13 @@
 -- The bounds and the outcome of a fill over lent bytes. Assumes nothing.
-use Prim.Native.Nat.{ℕ, zero, suc, _+_, _-_, _*_, _%_, _≤_}
+use Prim.Native.Nat.{ℕ, zero, suc, _+_, _-_, _*_, _%_, _≤_, _<_}
 use mathlib.Core.Path.{_≡_, refl, sym, ap, _∙_, subst}
 use mathlib.Core.Bool.{true, false, _&&_}
 use mathlib.Core.List.{List, append-nil}
 use native.Mathlib.Omega.{arith}
-use lib.ListN.{length, drop, length-drop, drop-of-length-le}
+use lib.ListN.{length, getD, drop, length-drop, drop-of-length-le}
 use lib.Seq.{length-take-le}
 use lib.Dec.{eqb, ltb, leb}
-use borrow.Author.Tests.{eq-eqb, ne-eqb, leb-true}
+use borrow.Author.Tests.{eq-eqb, ne-eqb, leb-true, lt-ltb, le-ltb}
 use Rattle.lists.specs.Parts.{put, pad}
 use Rattle.lists.proofs.PickLaws.{pick-by}
 use Rattle.cause.specs.Checks.{firstFault, whenSound, orElse}
@@ -196,5 +196,8 @@ module _ (t b : List ℕ) where
   pub other-grant : length t ≡ 100 → (length b ≡ 6 → ⊥) → sized t b ≡ false
   other-grant e d = rw (eq-eqb (length t) 100 e, ne-eqb (length b) 6 d)
 
-  pub right-sizes : length t ≡ 100 → length b ≡ 6 → sized t b ≡ true
-  right-sizes e d = rw (eq-eqb (length t) 100 e, eq-eqb (length b) 6 d)
+  pub other-bit : length t ≡ 100 → length b ≡ 6 → 2 ≤ getD b 0 0 → sized t b ≡ false
+  other-bit e d h = rw (eq-eqb (length t) 100 e, eq-eqb (length b) 6 d, le-ltb (getD b 0 0) 2 h)
+
+  pub right-sizes : length t ≡ 100 → length b ≡ 6 → getD b 0 0 < 2 → sized t b ≡ true
+  right-sizes e d h = rw (eq-eqb (length t) 100 e, eq-eqb (length b) 6 d, lt-ltb (getD b 0 0) 2 h)

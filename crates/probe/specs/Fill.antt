@@ -3,7 +3,7 @@ use Prim.Native.Nat.{ℕ, _+_, _*_, _≤_}
 use mathlib.Core.Bool.{Bool, _&&_}
 use mathlib.Core.List.{List}
 use lib.ListN.{length, getD}
-use lib.Dec.{eqb}
+use lib.Dec.{eqb, ltb}
 use Rattle.lists.specs.Pick.{pick}
 use Rattle.cause.specs.Causes.{causeNumber}
 use Rattle.container.specs.declared.grant.Grant.{Grant}
@@ -38,15 +38,15 @@ abbrev pub Small : Answer → ℕ → Type 0
 Small (Filled used) len = (used ≤ 4096) × (len ≤ 100)
 Small (Refused c p) len = p ≤ 4096
 
--- a tail array of 100 bytes, and a grant of six
+-- a tail array of 100 bytes, and a grant of six, of which ShC is 0 or 1
 abbrev pub sized : List ℕ → List ℕ → Bool
-sized t b = eqb (length t) 100 && eqb (length b) 6
+sized t b = eqb (length t) 100 && (eqb (length b) 6 && ltb (getD b 0 0) 2)
 
 -- the fill that a call asks for, into a container of so many bytes
 abbrev pub asked : ℕ → ℕ → List ℕ → List ℕ → List ℕ → ℕ → Step
 asked f n t b l size = filling (writerFrom f n t) l (grantFrom b) size
 
--- the answer; 19 where the tail array or the grant has another size
+-- the answer; 19 where the tail array or the grant has another size, or ShC is neither 0 nor 1
 unfoldable pub fillCode : ℕ → ℕ → List ℕ → List ℕ → List ℕ → ℕ → ℕ
 fillCode f n t b l size =
     pick (sized t b) (answerCode (asked f n t b l size .answer) (asked f n t b l size .writer .len)) (19 * 4_294_967_296)

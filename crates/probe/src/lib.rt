@@ -103,6 +103,9 @@ pub extern "C" fn c2c_fill(
     if grant.len() != 6 {
         return 19 * 4294967296;
     }
+    if 2 <= grant[0] {
+        return 19 * 4294967296;
+    }
     let writer = Writer {
         format: format,
         tail: load_tail(tail),

@@ -2,7 +2,7 @@
 use mathlib.Core.Path.{ap, _∙_}
 use lib.ListN.{length}
 use Rattle.probe.specs.Fill.{writerFrom}
-use Rattle.probe.proofs.FillLaws.{step-small, code-unsized, tail-unsized, container-unsized, code-sized, tail-sized, container-sized, other-tail, other-grant, right-sizes}
+use Rattle.probe.proofs.FillLaws.{step-small, code-unsized, tail-unsized, container-unsized, code-sized, tail-sized, container-sized, other-tail, other-grant, other-bit, right-sizes}
 use borrow.Author.Needs.{needs}
 use Rattle.probe.proofs.c2c_fill.Statement.{statement}
 use Rattle.probe.proofs.c2c_fill.Tie as tie
@@ -35,6 +35,23 @@ returns-2 c =
       (tail-unsized (start .args .format) (start .args .len) t b l d _, container-unsized (start .args .format) (start .args .len) t b l d _),
     )
 
+shared-slice-read-if3 : tie.Need-shared-slice-read-if3
+shared-slice-read-if3 c = search needs
+
+mul-result-3 : tie.Need-mul-result-3
+mul-result-3 c = search needs
+
+returns-3 : tie.Need-returns-3
+returns-3 c =
+    let start = c .before .before .before .before .before .before .before .before in
+    let t = start .args .tail .now in
+    let b = start .args .grant .now in
+    let l = start .args .list .now in
+    let d = other-bit t b (c .before .before .before .if1 .left) (c .before .before .if2 .left) (c .if3 .taken) in (
+      code-unsized (start .args .format) (start .args .len) t b l d _,
+      (tail-unsized (start .args .format) (start .args .len) t b l d _, container-unsized (start .args .format) (start .args .len) t b l d _),
+    )
+
 load-tail-requires : tie.Need-load-tail-requires
 load-tail-requires c κs = search needs
 
@@ -49,7 +66,7 @@ store-tail-requires c κs = search needs
 
 encode-answer-requires : tie.Need-encode-answer-requires
 encode-answer-requires c κs =
-    let start = c .before .before .before .before .before .before .before .before .before .before .before .before .before .before .before .before .before .before .before in
+    let start = c .before .before .before .before .before .before .before .before .before .before .before .before .before .before .before .before .before .before .before .before .before in
     let t = start .args .tail .now in
     let b = start .args .grant .now in
     let l = start .args .list .now in
@@ -57,7 +74,7 @@ encode-answer-requires c κs =
     let loaded = c .before .before .before .before .before .before .before .before .before .before .before .load-tail in
     let granted = c .before .before .before .before .before .before .before .before .before .before .load-grant in
     let filled = c .before .before .before .before .before .before .before .before .fill in
-    let long = ap length (loaded .ensures) ∙ c .before .before .before .before .before .before .before .before .before .before .before .before .before .before .if1 .left in
+    let long = ap length (loaded .ensures) ∙ c .before .before .before .before .before .before .before .before .before .before .before .before .before .before .before .before .if1 .left in
     step-small (writerFrom (start .args .format) (start .args .len) (loaded .result)) l (granted .result) (length d) long (filled .result) (filled .ensures .0)
 
 same-length : tie.Need-same-length
@@ -66,9 +83,9 @@ same-length c = search needs
 same-length-2 : tie.Need-same-length-2
 same-length-2 c = search needs
 
-returns-3 : tie.Need-returns-3
-returns-3 c =
-    let start = c .before .before .before .before .before .before .before .before .before .before .before .before .before .before .before .before .before .before .before .before in
+returns-4 : tie.Need-returns-4
+returns-4 c =
+    let start = c .before .before .before .before .before .before .before .before .before .before .before .before .before .before .before .before .before .before .before .before .before .before in
     let t = start .args .tail .now in
     let b = start .args .grant .now in
     let l = start .args .list .now in
@@ -76,7 +93,7 @@ returns-3 c =
     let loaded = c .before .before .before .before .before .before .before .before .before .before .before .before .load-tail in
     let granted = c .before .before .before .before .before .before .before .before .before .before .before .load-grant in
     let filled = c .before .before .before .before .before .before .before .before .before .fill in
-    let right = right-sizes t b (c .before .before .before .before .before .before .before .before .before .before .before .before .before .before .before .if1 .left) (c .before .before .before .before .before .before .before .before .before .before .before .before .before .before .if2 .left) in (
+    let right = right-sizes t b (c .before .before .before .before .before .before .before .before .before .before .before .before .before .before .before .before .before .if1 .left) (c .before .before .before .before .before .before .before .before .before .before .before .before .before .before .before .before .if2 .left) (c .before .before .before .before .before .before .before .before .before .before .before .before .before .before .if3 .left) in (
       code-sized (start .args .format) (start .args .len) t b l right (loaded .result) (loaded .ensures) (granted .result) (granted .ensures) (length d) (filled .result) (filled .ensures .0) _ (c .encode-answer .ensures),
       (
         tail-sized (start .args .format) (start .args .len) t b l right (loaded .result) (loaded .ensures) (granted .result) (granted .ensures) (length d) (filled .result) (filled .ensures .0) _ (c .before .before .before .store-tail .ensures),
@@ -92,6 +109,9 @@ c2c-fill-spec =
     returns
     mul-result-2
     returns-2
+    shared-slice-read-if3
+    mul-result-3
+    returns-3
     load-tail-requires
     load-grant-requires
     fill-requires
@@ -99,4 +119,4 @@ c2c-fill-spec =
     encode-answer-requires
     same-length
     same-length-2
-    returns-3)
+    returns-4)
