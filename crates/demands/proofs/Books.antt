@@ -17,19 +17,24 @@ use Rattle.message.specs.Charges.{charges}
 use Rattle.reader.specs.Reading.{carried, readerOk, readerWith, nextReader, records}
 use Rattle.reader.specs.declared.reader.Reader.{Reader}
 use Rattle.ledger.specs.Pools.{receiverOk, messageChecks, allMessages, allGrants, chargedTo, paidTo, grantedTo}
-use Rattle.ledger.specs.Audit.{receiverOf, readerOf, heldOf, openOf, passes, configured, freshLedger, begun, finished, granted, auditChecks, nextLedger, answerOf, auditing, reported}
+use Rattle.ledger.specs.Audit.{receiverOf, readerOf, heldOf, openOf, passes, ledgerOk, configured, freshLedger, begun, finished, granted, auditChecks, nextLedger, answerOf, auditing, reported}
 use Rattle.ledger.specs.Audit as audit
 use Rattle.ledger.specs.declared.receiver.Receiver.{Receiver}
 use Rattle.ledger.specs.declared.ledger.Ledger.{Ledger}
+use Rattle.ledger.specs.declared.ledger.Reported.the-variants.{Counted}
 use Rattle.ledger.proofs.ValidLaws.{ValidDirection, ledger-valid, valid-ledger}
-use Rattle.ledger.proofs.AcceptedLaws.{Accepted, accepted-by, accepted-sound, held-own, held-other, open-own, open-other, reader-own, reader-other, receivers-kept}
+use Rattle.ledger.proofs.AcceptedLaws.{Accepted, accepted-by, accepted-sound, held-own, held-other, open-own, open-other, reader-own, reader-other, receivers-kept, next-ledger-valid}
+use Rattle.ledger.proofs.SettingValid.{fresh-valid}
+use Rattle.ledger.proofs.LogStates.{audit-keeps}
 use Rattle.history.specs.Link.{Direction, direction0, direction1, numberOf, directionOf, opposite, sameDirection, Link}
 use Rattle.history.specs.Audit.{fitsBelow, equalBelow, directionOk, creditsPaid, slotsTaken, entryOk, enter, auditEntry, linkAuditor}
 use Rattle.history.specs.Audit as link
+use Rattle.history.specs.Trace.{Trace, start, _▷_}
+use Rattle.history.specs.Calls.{Call, after}
 use Rattle.history.proofs.Below.{below-fits, fits-below, below-equal, equal-below}
 use Rattle.history.proofs.Calls.{Simulates}
 use Rattle.history.proofs.Demand.{books-close}
-use Rattle.demands.specs.Tap.{startsIn, endsIn, grantsOf, receiverFor, linkOf, accepting, auditorOf}
+use Rattle.demands.specs.Tap.{startsIn, endsIn, grantsOf, receiverFor, linkOf, accepting, heldIn, openIn, auditorOf}
 use Rattle.demands.specs.Demand3.{Demand3}
 use Rattle.demands.proofs.TapLaws.{reads-by, by-reads, passes-sound, receiver-valid, lawful}
 
@@ -91,34 +96,39 @@ next-refused l n c e = by (firstFault (auditChecks l n c)) e
     by Sound t = absurd (never-both t refl)
     by (Faulty k p) t = refl
 
--- what a ledger reports, within its pools and past them
-pub reported-held : (l : Ledger) (n p : ℕ) → n < 2 → p < 14 → reported l n p .held .0 ≡ heldOf l n p
-reported-held l n p h k = rw (lt-ltb n 2 h, lt-ltb p 14 k)
+-- what a valid ledger reports within its pools, and any past them
+module _ (l : Ledger) (n p : ℕ) (h : n < 2) where
+  pub reported-counts : ledgerOk l ≡ true → p < 14 → reported l n p ≡ Counted (record { 0 = heldOf l n p }) (record { 0 = openOf l n p })
+  reported-counts v k = rw (lt-ltb n 2 h, lt-ltb p 14 k, v)
 
-pub reported-open : (l : Ledger) (n p : ℕ) → n < 2 → p < 14 → reported l n p .opened .0 ≡ openOf l n p
-reported-open l n p h k = rw (lt-ltb n 2 h, lt-ltb p 14 k)
+  pub reported-held : ledgerOk l ≡ true → p < 14 → heldIn (reported l n p) ≡ heldOf l n p
+  reported-held v k = ap heldIn (reported-counts v k)
 
-reported-past : (l : Ledger) (n p : ℕ) → n < 2 → 14 ≤ p → (reported l n p .held .0 ≡ 0) × (reported l n p .opened .0 ≡ 0)
-reported-past l n p h k = (rw (lt-ltb n 2 h, le-ltb p 14 k), rw (lt-ltb n 2 h, le-ltb p 14 k))
+  pub reported-open : ledgerOk l ≡ true → p < 14 → openIn (reported l n p) ≡ openOf l n p
+  reported-open v k = ap openIn (reported-counts v k)
+
+  reported-past : 14 ≤ p → (heldIn (reported l n p) ≡ 0) × (openIn (reported l n p) ≡ 0)
+  reported-past k = (rw (lt-ltb n 2 h, le-ltb p 14 k), rw (lt-ltb n 2 h, le-ltb p 14 k))
 
 -- ---- the code's ledger beside the link's
 module _ (f : ℕ) (a b : Receiver) (v : configured f a b ≡ true) where
   abbrev K : Link
   K = linkOf f a b
 
-  -- the same receivers and readers, and the same reports
+  -- a valid ledger with the same receivers and readers, and the same reports
   pub record Related (l : Ledger) (m : link.Ledger (linkOf f a b)) : Type 0 where
+    pub valid : ledgerOk l ≡ true
     pub receivers : (d : Direction) → receiverOf l (numberOf d) ≡ receiverFor a b d
     pub states : (d : Direction) → readerOf l (numberOf d) ≡ m .states d
-    pub held : (d : Direction) (p : ℕ) → reported l (numberOf d) p .held .0 ≡ m .held d p
-    pub unfinished : (d : Direction) (p : ℕ) → reported l (numberOf d) p .opened .0 ≡ m .unfinished d p
+    pub held : (d : Direction) (p : ℕ) → heldIn (reported l (numberOf d) p) ≡ m .held d p
+    pub unfinished : (d : Direction) (p : ℕ) → openIn (reported l (numberOf d) p) ≡ m .unfinished d p
 
   module _ (l : Ledger) (m : link.Ledger (linkOf f a b)) (r : Related l m) where
     held-is : (d : Direction) (p : ℕ) → p < 14 → heldOf l (numberOf d) p ≡ m .held d p
-    held-is d p h = sym (reported-held l (numberOf d) p (number-below d) h) ∙ r .held d p
+    held-is d p h = sym (reported-held l (numberOf d) p (number-below d) (r .valid) h) ∙ r .held d p
 
     open-is : (d : Direction) (p : ℕ) → p < 14 → openOf l (numberOf d) p ≡ m .unfinished d p
-    open-is d p h = sym (reported-open l (numberOf d) p (number-below d) h) ∙ r .unfinished d p
+    open-is d p h = sym (reported-open l (numberOf d) p (number-below d) (r .valid) h) ∙ r .unfinished d p
 
     capacity-is : (d : Direction) (p : ℕ) → getD (receiverOf l (numberOf d) .capacities) p 0 ≡ K .capacity d p
     capacity-is d p = ap (λ (x : Receiver). getD (x .capacities) p 0) (r .receivers d)
@@ -259,6 +269,9 @@ module _ (f : ℕ) (a b : Receiver) (v : configured f a b ≡ true) where
         reads : K .reads d (m .states d) c ≡ true
         reads = reads-forth x
 
+        kept : ledgerOk (nextLedger l n c) ≡ true
+        kept = next-ledger-valid l n c x
+
         -- past the last pool nothing is held and nothing is open
         held-past : (e : Direction) (p : ℕ) → 14 ≤ p → m .held e p ≡ 0
         held-past e p h = sym (r .held e p) ∙ reported-past l (numberOf e) p (number-below e) h .0
@@ -266,22 +279,22 @@ module _ (f : ℕ) (a b : Receiver) (v : configured f a b ≡ true) where
         open-past : (e : Direction) (p : ℕ) → 14 ≤ p → m .unfinished e p ≡ 0
         open-past e p h = sym (r .unfinished e p) ∙ reported-past l (numberOf e) p (number-below e) h .1
 
-        held-own-is : (p : ℕ) → reported (nextLedger l n c) n p .held .0 ≡ m .held d p - K .begins d (m .states d) c p
+        held-own-is : (p : ℕ) → heldIn (reported (nextLedger l n c) n p) ≡ m .held d p - K .begins d (m .states d) c p
         held-own-is p = go (decLe 14 p)
           where
-            go : Dec (14 ≤ p) → reported (nextLedger l n c) n p .held .0 ≡ m .held d p - K .begins d (m .states d) c p
+            go : Dec (14 ≤ p) → heldIn (reported (nextLedger l n c) n p) ≡ m .held d p - K .begins d (m .states d) c p
             go (yes h) = let y = reported-past (nextLedger l n c) n p (number-below d) h .0 in let z = held-past d p h in omega arith
             go (no h) =
                 let k : p < 14 = omega arith in
                 let y = held-own l n c x p k in
                 let z = held-is d p k in
                 let w = begins-is p in
-                reported-held (nextLedger l n c) n p (number-below d) k ∙ omega arith
+                reported-held (nextLedger l n c) n p (number-below d) kept k ∙ omega arith
 
-        held-other-is : (p : ℕ) → reported (nextLedger l n c) (numberOf (opposite d)) p .held .0 ≡ m .held (opposite d) p + K .grants d (m .states d) c p
+        held-other-is : (p : ℕ) → heldIn (reported (nextLedger l n c) (numberOf (opposite d)) p) ≡ m .held (opposite d) p + K .grants d (m .states d) c p
         held-other-is p = go (decLe 14 p)
           where
-            go : Dec (14 ≤ p) → reported (nextLedger l n c) (numberOf (opposite d)) p .held .0 ≡ m .held (opposite d) p + K .grants d (m .states d) c p
+            go : Dec (14 ≤ p) → heldIn (reported (nextLedger l n c) (numberOf (opposite d)) p) ≡ m .held (opposite d) p + K .grants d (m .states d) c p
             go (yes h) =
                 let y = reported-past (nextLedger l n c) (numberOf (opposite d)) p (number-below (opposite d)) h .0 in
                 let z = held-past (opposite d) p h in
@@ -292,12 +305,12 @@ module _ (f : ℕ) (a b : Receiver) (v : configured f a b ≡ true) where
                 let y = rw (sym (number-opposite d)) at (held-other l n c x p k) in
                 let z = held-is (opposite d) p k in
                 let w = grants-is p in
-                reported-held (nextLedger l n c) (numberOf (opposite d)) p (number-below (opposite d)) k ∙ omega arith
+                reported-held (nextLedger l n c) (numberOf (opposite d)) p (number-below (opposite d)) kept k ∙ omega arith
 
-        open-own-is : (p : ℕ) → reported (nextLedger l n c) n p .opened .0 ≡ m .unfinished d p + K .begins d (m .states d) c p - K .finishes d (m .states d) c p
+        open-own-is : (p : ℕ) → openIn (reported (nextLedger l n c) n p) ≡ m .unfinished d p + K .begins d (m .states d) c p - K .finishes d (m .states d) c p
         open-own-is p = go (decLe 14 p)
           where
-            go : Dec (14 ≤ p) → reported (nextLedger l n c) n p .opened .0 ≡ m .unfinished d p + K .begins d (m .states d) c p - K .finishes d (m .states d) c p
+            go : Dec (14 ≤ p) → openIn (reported (nextLedger l n c) n p) ≡ m .unfinished d p + K .begins d (m .states d) c p - K .finishes d (m .states d) c p
             go (yes h) =
                 let y = reported-past (nextLedger l n c) n p (number-below d) h .1 in
                 let z = open-past d p h in
@@ -309,27 +322,28 @@ module _ (f : ℕ) (a b : Receiver) (v : configured f a b ≡ true) where
                 let z = open-is d p k in
                 let w = begins-is p in
                 let u = finishes-is p in
-                reported-open (nextLedger l n c) n p (number-below d) k ∙ omega arith
+                reported-open (nextLedger l n c) n p (number-below d) kept k ∙ omega arith
 
-        open-other-is : (p : ℕ) → reported (nextLedger l n c) (numberOf (opposite d)) p .opened .0 ≡ m .unfinished (opposite d) p
+        open-other-is : (p : ℕ) → openIn (reported (nextLedger l n c) (numberOf (opposite d)) p) ≡ m .unfinished (opposite d) p
         open-other-is p = go (decLe 14 p)
           where
-            go : Dec (14 ≤ p) → reported (nextLedger l n c) (numberOf (opposite d)) p .opened .0 ≡ m .unfinished (opposite d) p
+            go : Dec (14 ≤ p) → openIn (reported (nextLedger l n c) (numberOf (opposite d)) p) ≡ m .unfinished (opposite d) p
             go (yes h) = reported-past (nextLedger l n c) (numberOf (opposite d)) p (number-below (opposite d)) h .1 ∙ sym (open-past (opposite d) p h)
             go (no h) =
                 let k : p < 14 = omega arith in
-                reported-open (nextLedger l n c) (numberOf (opposite d)) p (number-below (opposite d)) k
+                reported-open (nextLedger l n c) (numberOf (opposite d)) p (number-below (opposite d)) kept k
                 ∙ rw (sym (number-opposite d)) at (open-other l n c x p k) ∙ open-is (opposite d) p k
 
         entered : Related (nextLedger l n c) (enter K m d c)
         entered = record {
+          valid = kept;
           receivers = λ e. receivers-kept l n c (numberOf e) ∙ r .receivers e;
           states = both-directions (λ e. readerOf (nextLedger l n c) (numberOf e) ≡ enter K m d c .states e) d
               (rw (same-own d) (reader-own l n c (number-below d) ∙ ap (λ (q : Reader). nextReader q c) (r .states d)))
               (rw (same-other d) (ap (readerOf (nextLedger l n c)) (number-opposite d) ∙ reader-other l n c (number-below d) ∙ ap (readerOf l) (sym (number-opposite d)) ∙ r .states (opposite d)));
-          held = both-directions (λ e. (p : ℕ) → reported (nextLedger l n c) (numberOf e) p .held .0 ≡ enter K m d c .held e p) d
+          held = both-directions (λ e. (p : ℕ) → heldIn (reported (nextLedger l n c) (numberOf e) p) ≡ enter K m d c .held e p) d
               (λ p. rw (same-own d) (held-own-is p)) (λ p. rw (same-other d) (held-other-is p));
-          unfinished = both-directions (λ e. (p : ℕ) → reported (nextLedger l n c) (numberOf e) p .opened .0 ≡ enter K m d c .unfinished e p) d
+          unfinished = both-directions (λ e. (p : ℕ) → openIn (reported (nextLedger l n c) (numberOf e) p) ≡ enter K m d c .unfinished e p) d
               (λ p. rw (same-own d) (open-own-is p)) (λ p. rw (same-other d) (open-other-is p));
         }
 
@@ -357,6 +371,7 @@ module _ (f : ℕ) (a b : Receiver) (v : configured f a b ≡ true) where
 
   related-first : Related (freshLedger f a b) (link.freshLedger K)
   related-first = record {
+    valid = fresh-valid f a b v;
     receivers = both-directions (λ e. receiverOf (freshLedger f a b) (numberOf e) ≡ receiverFor a b e) direction0 refl refl;
     states = both-directions (λ e. readerOf (freshLedger f a b) (numberOf e) ≡ readerWith f []) direction0 refl refl;
     held = λ d p. zero-by d p (decLe 14 p) .0;
@@ -366,12 +381,12 @@ module _ (f : ℕ) (a b : Receiver) (v : configured f a b ≡ true) where
       zero-at : (i : ℕ) → getD {A = ℕ} (replicate 28 0) i 0 ≡ 0
       zero-at i = zeros-at (replicate 28 0) (zeros-replicate 28) i
 
-      zero-by : (d : Direction) (p : ℕ) → Dec (14 ≤ p) → (reported (freshLedger f a b) (numberOf d) p .held .0 ≡ 0) × (reported (freshLedger f a b) (numberOf d) p .opened .0 ≡ 0)
+      zero-by : (d : Direction) (p : ℕ) → Dec (14 ≤ p) → (heldIn (reported (freshLedger f a b) (numberOf d) p) ≡ 0) × (openIn (reported (freshLedger f a b) (numberOf d) p) ≡ 0)
       zero-by d p (yes h) = reported-past (freshLedger f a b) (numberOf d) p (number-below d) h
       zero-by d p (no h) =
           let k : p < 14 = omega arith in (
-            reported-held (freshLedger f a b) (numberOf d) p (number-below d) k ∙ zero-at (14 * numberOf d + p),
-            reported-open (freshLedger f a b) (numberOf d) p (number-below d) k ∙ zero-at (14 * numberOf d + p),
+            reported-held (freshLedger f a b) (numberOf d) p (number-below d) (fresh-valid f a b v) k ∙ zero-at (14 * numberOf d + p),
+            reported-open (freshLedger f a b) (numberOf d) p (number-below d) (fresh-valid f a b v) k ∙ zero-at (14 * numberOf d + p),
           )
 
   pub simulates : Simulates (auditorOf f a b) (linkAuditor K) Related
@@ -383,9 +398,15 @@ module _ (f : ℕ) (a b : Receiver) (v : configured f a b ≡ true) where
     same-unfinished = λ l m r d p. r .unfinished d p;
   }
 
+-- every ledger of the calls is valid
+calls-valid : (f : ℕ) (a b : Receiver) → configured f a b ≡ true → (xs : Trace (Call (List ℕ))) → ledgerOk (after (auditorOf f a b) xs) ≡ true
+calls-valid f a b v start = fresh-valid f a b v
+calls-valid f a b v (xs ▷ x) = audit-keeps (after (auditorOf f a b) xs) (x .number) (x .container) (calls-valid f a b v xs)
+
 pub demand3 : Demand3
 unfolding records
 demand3 = record {
   books-close = λ f a b v xs. books-close (linkOf f a b) (lawful f a b v) (auditorOf f a b) (Related f a b v) (simulates f a b v) xs;
+  reports = λ f a b v xs d p h. (_, _, reported-counts (after (auditorOf f a b) xs) (numberOf d) p (number-below d) (calls-valid f a b v xs) h);
   handed-out = λ s c. refl;
 }

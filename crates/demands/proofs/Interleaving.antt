@@ -2,18 +2,21 @@
 use Prim.Native.Nat.{ℕ, _<_}
 use mathlib.Core.Path.{_≡_, refl, sym, ap, subst, _∙_}
 use mathlib.Core.Bool.{true}
-use mathlib.Core.List.{List}
+use mathlib.Core.List.{List, [], _∷_}
 use lib.ListN.{length, getD}
 use Rattle.cause.specs.Checks.{firstFault, whenSound}
 use Rattle.cause.specs.declared.Verdict.{Verdict}
 use Rattle.cause.specs.declared.Verdict.the-variants.{Sound, Faulty}
 use Rattle.reader.specs.declared.reader.Reader.{Reader}
-use Rattle.ledger.specs.Audit.{receiverOf, readerOf, heldOf, openOf, configured, auditChecks, nextLedger, auditing, heldAfter, openAfter, reported}
+use Rattle.ledger.specs.Audit.{receiverOf, readerOf, heldOf, openOf, ledgerOk, configured, auditChecks, nextLedger, auditing, heldAfter, openAfter, reported}
 use Rattle.ledger.specs.Log.{receiverAt, ledgerOf}
 use Rattle.ledger.specs.Stream.{most}
 use Rattle.ledger.specs.Calls.{AcceptedLog}
+use Rattle.ledger.specs.Calls as log
 use Rattle.ledger.specs.declared.receiver.Receiver.{Receiver}
 use Rattle.ledger.specs.declared.ledger.Ledger.{Ledger}
+use Rattle.ledger.proofs.SettingValid.{fresh-valid}
+use Rattle.ledger.proofs.LogStates.{audit-keeps}
 use Rattle.ledger.proofs.TableSelf.{length-table, table-equal}
 use Rattle.history.specs.Trace.{Trace, start, _▷_}
 use Rattle.history.specs.Link.{Direction, direction0, direction1, numberOf}
@@ -23,7 +26,7 @@ use Rattle.history.specs.Audit.{linkAuditor}
 use Rattle.history.specs.Interleaving.{SameContainers, SameReports}
 use Rattle.history.proofs.Calls.{always-related}
 use Rattle.history.proofs.Interleaved.{interleaved, interleaved-states}
-use Rattle.demands.specs.Tap.{linkOf, auditorOf}
+use Rattle.demands.specs.Tap.{linkOf, heldIn, openIn, auditorOf}
 use Rattle.demands.specs.LogTap.{tapOf, behind}
 use Rattle.demands.specs.Interleaving.{SameEnd, SameTraffic, lastLedger, Interleaving}
 use Rattle.demands.proofs.TapLaws.{lawful}
@@ -78,11 +81,11 @@ module _ (f : ℕ) (a b : Receiver) (v : configured f a b ≡ true) where
     -- an entry of a table, by what is reported of it
     same-held : (d : Direction) (p : ℕ) → p < 14 → heldOf (after U xs) (numberOf d) p ≡ heldOf (after U ys) (numberOf d) p
     same-held d p k =
-        sym (reported-held (after U xs) (numberOf d) p (number-below d) k) ∙ reports .held d p ∙ reported-held (after U ys) (numberOf d) p (number-below d) k
+        sym (reported-held (after U xs) (numberOf d) p (number-below d) (related xs .valid) k) ∙ reports .held d p ∙ reported-held (after U ys) (numberOf d) p (number-below d) (related ys .valid) k
 
     same-open : (d : Direction) (p : ℕ) → p < 14 → openOf (after U xs) (numberOf d) p ≡ openOf (after U ys) (numberOf d) p
     same-open d p k =
-        sym (reported-open (after U xs) (numberOf d) p (number-below d) k) ∙ reports .unfinished d p ∙ reported-open (after U ys) (numberOf d) p (number-below d) k
+        sym (reported-open (after U xs) (numberOf d) p (number-below d) (related xs .valid) k) ∙ reports .unfinished d p ∙ reported-open (after U ys) (numberOf d) p (number-below d) (related ys .valid) k
 
     pub ends-alike : SameEnd (after U xs) (after U ys)
     ends-alike = record {
@@ -107,6 +110,15 @@ module _ (f : ℕ) (a b : Receiver) (v : configured f a b ≡ true) where
     pub answers-alike : (d : ℕ) (c : List ℕ) → auditing (after U xs) d c .answer ≡ auditing (after U ys) d c .answer
     answers-alike d c = ap (λ (l : Ledger). auditing l d c .answer) ledgers-alike
 
+-- the ledger behind an accepted log is valid
+behind-valid : (s : Ledger) (es : List log.Entry) → ledgerOk s ≡ true → ledgerOk (behind s es) ≡ true
+behind-valid s [] h = h
+behind-valid s (e ∷ es) h = behind-valid (auditing s (e .direction) (e .container) .ledger) es (audit-keeps s (e .direction) (e .container) h)
+
+last-valid : (l : List ℕ) (n : ℕ) (x : AcceptedLog most l n) → ledgerOk (lastLedger x) ≡ true
+last-valid l n x =
+    behind-valid (ledgerOf (x .numbers)) (x .calls) (fresh-valid (getD (x .numbers) 0 0) (receiverAt (x .numbers) 1) (receiverAt (x .numbers) 17) (x .valid))
+
 -- the entries of two logs are such lists of calls
 module _ (l k : List ℕ) (n m : ℕ) (x : AcceptedLog most l n) (y : AcceptedLog most k m) (q : x .numbers ≡ y .numbers)
     (e : SameContainers (tapOf start (x .calls)) (tapOf start (y .calls))) where
@@ -122,8 +134,9 @@ module _ (l k : List ℕ) (n m : ℕ) (x : AcceptedLog most l n) (y : AcceptedLo
       subst (λ (g : Ledger). SameEnd g (lastLedger y)) (s .1) (subst (SameEnd (after (auditorOf f a b) (s .0))) z (ends-alike f a b (x .valid) (s .0) (t .0) c))
 
   pub reports-alike : (d p : ℕ)
-      → (reported (lastLedger x) d p .held ≡ reported (lastLedger y) d p .held) × (reported (lastLedger x) d p .opened ≡ reported (lastLedger y) d p .opened)
-  reports-alike d p = (rw (logs-alike .held, logs-alike .opened), rw (logs-alike .held, logs-alike .opened))
+      → (heldIn (reported (lastLedger x) d p) ≡ heldIn (reported (lastLedger y) d p)) × (openIn (reported (lastLedger x) d p) ≡ openIn (reported (lastLedger y) d p))
+  reports-alike d p =
+      (rw (last-valid l n x, last-valid k m y, logs-alike .held, logs-alike .opened), rw (last-valid l n x, last-valid k m y, logs-alike .held, logs-alike .opened))
 
 pub interleaving : Interleaving
 interleaving = record { same-end = ends-alike; same-answer = answers-alike; same-report = reports-alike }

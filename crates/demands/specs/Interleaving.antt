@@ -15,7 +15,7 @@ use Rattle.ledger.specs.declared.ledger.Answer.the-variants.{Refused}
 use Rattle.history.specs.Trace.{Trace, start}
 use Rattle.history.specs.Calls.{Call, after, accepted}
 use Rattle.history.specs.Interleaving.{SameContainers}
-use Rattle.demands.specs.Tap.{auditorOf}
+use Rattle.demands.specs.Tap.{heldIn, openIn, auditorOf}
 use Rattle.demands.specs.LogTap.{tapOf, behind}
 use Rattle.demands.specs.Marked.{withBytes, receiverWith, grantsResponses, grantsData, dataAtG9}
 
@@ -48,7 +48,7 @@ pub record Interleaving : Type 0 where
   -- two accepted logs of one configuration, whose entries agree within each direction, end with the same report for each direction and pool
   pub same-report : (l k : List ℕ) (n m : ℕ) (x : AcceptedLog most l n) (y : AcceptedLog most k m) → x .numbers ≡ y .numbers
       → SameContainers (tapOf start (x .calls)) (tapOf start (y .calls)) → (d p : ℕ)
-      → (reported (lastLedger x) d p .held ≡ reported (lastLedger y) d p .held) × (reported (lastLedger x) d p .opened ≡ reported (lastLedger y) d p .opened)
+      → (heldIn (reported (lastLedger x) d p) ≡ heldIn (reported (lastLedger y) d p)) × (openIn (reported (lastLedger x) d p) ≡ openIn (reported (lastLedger y) d p))
 
 -- in format X: direction 1 grants shared DAT and then RSP, and direction 0 starts a DataS that pays with the first
 abbrev pub dataGranted : log.Entry
@@ -74,8 +74,8 @@ startsLast = dataGranted ∷ responseGranted ∷ dataStarted ∷ []
 -- entries that are accepted, and end with an RSP credit held, a message open in shared DAT and 60 bytes of it carried
 pub record Ended (es : List log.Entry) : Type 0 where
   pub accepted : AllAccepted oneBuffer es
-  pub held : reported (behind oneBuffer es) 0 9 .held .0 ≡ 1
-  pub opened : reported (behind oneBuffer es) 0 11 .opened .0 ≡ 1
+  pub held : heldIn (reported (behind oneBuffer es) 0 9) ≡ 1
+  pub opened : openIn (reported (behind oneBuffer es) 0 11) ≡ 1
   pub carried : behind oneBuffer es .len0 ≡ 60
 
 -- an example: two orders that are accepted and end alike, and one that is refused

@@ -16,6 +16,8 @@ use Rattle.ledger.specs.Pools.{messageChecks, allMessages, allGrants, chargedTo
 use Rattle.ledger.specs.Audit.{passes, freshLedger, auditing, reported}
 use Rattle.ledger.specs.declared.receiver.Receiver.{Receiver}
 use Rattle.ledger.specs.declared.ledger.Ledger.{Ledger}
+use Rattle.ledger.specs.declared.ledger.Reported.{Reported}
+use Rattle.ledger.specs.declared.ledger.Reported.the-variants as report
 use Rattle.ledger.specs.declared.ledger.Answer.{Answer}
 use Rattle.ledger.specs.declared.ledger.Answer.the-variants.{Accepted, Refused}
 use Rattle.history.specs.Link.{Direction, direction0, direction1, numberOf, opposite, Link}
@@ -63,6 +65,15 @@ abbrev pub accepting : Answer → Bool
 accepting Accepted = true
 accepting (Refused k p) = false
 
+-- the credits held and the messages open that a report tells, 0 where it is refused
+abbrev pub heldIn : Reported → ℕ
+heldIn (report.Counted held opened) = held .0
+heldIn (report.Refused k p) = 0
+
+abbrev pub openIn : Reported → ℕ
+openIn (report.Counted held opened) = opened .0
+openIn (report.Refused k p) = 0
+
 -- the audit: the code's own ledger, what `audit` answers, and what `report` reports
 abbrev pub auditorOf : ℕ → Receiver → Receiver → Auditor (List ℕ)
 auditorOf f a b = record {
@@ -72,6 +83,6 @@ auditorOf f a b = record {
     accepts = accepting (auditing l (x .number) (x .container) .answer);
     ledger = auditing l (x .number) (x .container) .ledger;
   };
-  held = λ l d p. reported l (numberOf d) p .held .0;
-  unfinished = λ l d p. reported l (numberOf d) p .opened .0;
+  held = λ l d p. heldIn (reported l (numberOf d) p);
+  unfinished = λ l d p. openIn (reported l (numberOf d) p);
 }
