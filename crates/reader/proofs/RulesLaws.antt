@@ -249,10 +249,12 @@ module _ (fm : Format) (law : Lawful fm) (m c : List ℕ) (n256 : length c ≡ 2
   pub rules-keeps : Rules fm m c → Keeps fm m c
   unfolding cellOf
   rules-keeps r =
-      let all = rules-followed (r .granules) in
       let z = r .reserved in
+      let second : header fm c 1 < 16 = omega (arith, z .0) in
+      let third : header fm c 2 < 16 = omega (arith, z .1) in
+      let all = rules-followed (r .granules) in
       record {
-        reserved = (omega (arith, z .0), omega (arith, z .1), z .2, z .3, z .4);
+        reserved = (second, third, z .2, z .3, z .4);
         shared = λ t. r .shared (eqb-true (header fm c 2 % 2) 1 t);
         granules = λ g b. keeps-of-rules g (progress fm c m g) b (all g (omega arith)) (r .granules g b);
         groups = λ q b. group-keeps all q b (r .groups q b);
