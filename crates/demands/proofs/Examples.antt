@@ -1,4 +1,4 @@
--- The marked examples, what lies beneath a longer message, two orders of the same containers, and the longest waits in the feeder, by
+-- The marked examples, short examples of each cause, what lies beneath a longer message, two orders of the same containers, and the longest waits in the feeder, by
 -- computation. Assumes nothing.
 use mathlib.Core.Path.{refl}
 use Rattle.record.specs.Number.{number, readNumber}
@@ -18,6 +18,7 @@ use Rattle.history.specs.Link.{direction0, direction1}
 use Rattle.history.specs.Interleaving.{SameContainers}
 use Rattle.demands.specs.LogTap.{tapOf}
 use Rattle.demands.specs.Marked.{Marked}
+use Rattle.demands.specs.Pinned.{Pinned}
 use Rattle.demands.specs.Beneath.{Beneath}
 use Rattle.demands.specs.Service.{Reached}
 use Rattle.demands.specs.Interleaving.{startsBetween, startsLast, Orders}
@@ -40,6 +41,62 @@ marked = record {
   m9-read = refl;
   m9-broken = refl;
   m10 = refl;
+}
+
+-- short examples of each cause
+pub pinned : Pinned
+unfolding number readNumber faultFrom listFault cells carryAfter endings startings granuleChecks groupChecks containerChecks stateChecks readChecks nextReader records reading plan cursorLast owesAfter usedOf callChecks fillFault filling capacitiesOk allMessages allGrants paidTo grantedTo grantsIn poolsOk begun finished granted heldChecks roomChecks auditChecks row nextLedger auditing
+pinned = record {
+  format = refl;
+  short = refl;
+  room = refl;
+  high-half = refl;
+  ninth = refl;
+  shared-plane = refl;
+  inside = refl;
+  type-11 = refl;
+  op-5 = refl;
+  type-0 = refl;
+  link-status = refl;
+  resp2 = refl;
+  crdt-grant = refl;
+  resp-bit = refl;
+  data-bit = refl;
+  push-bit = refl;
+  activation-0 = refl;
+  activation-5 = refl;
+  activation-6 = refl;
+  grant-half = refl;
+  grant-last = refl;
+  behind-resp = refl;
+  behind-grant = refl;
+  empty = refl;
+  gap-0 = refl;
+  gap-3 = refl;
+  second-misc = refl;
+  many = refl;
+  beside = refl;
+  grant = refl;
+  direction = refl;
+  plane-3 = refl;
+  plane-3-shared = refl;
+  data-no-push = refl;
+  push-no-push = refl;
+  push-shared = refl;
+  push-one-plane = refl;
+  grant-plane = refl;
+  grant-dat-0 = refl;
+  grant-dat-1 = refl;
+  message-first = refl;
+  no-rsp = refl;
+  no-snp = refl;
+  over-snp = refl;
+  over-req = refl;
+  over-dat = refl;
+  begun-first = refl;
+  plane-8 = refl;
+  fill-shared = refl;
+  broken = refl;
 }
 
 -- what lies beneath a longer message

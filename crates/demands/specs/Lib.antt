@@ -4,6 +4,7 @@ pub mod Tap
 pub mod Demand3
 pub mod LogTap
 pub mod Marked
+pub mod Pinned
 pub mod Beneath
 pub mod Interleaving
 pub mod Service

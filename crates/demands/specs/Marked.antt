@@ -4,7 +4,7 @@ use mathlib.Core.Path.{_≡_}
 use mathlib.Core.Bool.{true}
 use mathlib.Core.List.{List, [], _∷_, _++_}
 use lib.ListN.{replicate, set}
-use Rattle.cause.specs.declared.Cause.the-variants.{TooManyResponses, GrantedOverCapacity}
+use Rattle.cause.specs.Causes.{causeNumber}
 use Rattle.container.specs.Layout.{formatOf, granule}
 use Rattle.container.specs.Grants.{grantOf}
 use Rattle.container.specs.declared.grant.Grant.{Grant}
@@ -12,6 +12,7 @@ use Rattle.record.specs.Number.{number, readNumber}
 use Rattle.record.specs.Records.{recordsOf}
 use Rattle.record.specs.declared.number.Number.the-variants.{Broken, Value}
 use Rattle.reader.specs.Reading.{readerWith, reading, records}
+use Rattle.reader.specs.declared.reader.Answer as reader
 use Rattle.reader.specs.declared.reader.Answer.the-variants as read
 use Rattle.writer.specs.Filling.{writerWith, fillBytes}
 use Rattle.ledger.specs.Audit.{freshLedger, auditing}
@@ -30,10 +31,19 @@ withBytes (b ∷ bs) = set (withBytes bs) (b .0) (b .1)
 abbrev pub receiverWith : ℕ → Receiver
 receiverWith n = record { planes = 2; push = true; capacities = 0 ∷ 0 ∷ 0 ∷ 0 ∷ 0 ∷ 0 ∷ 0 ∷ 0 ∷ 0 ∷ n ∷ 0 ∷ n ∷ 0 ∷ 0 ∷ [] }
 
+-- an answer in the paper's numbers: its cause and place, twice 0 where there is no refusal
+abbrev pub readTold : reader.Answer → ℕ × ℕ
+readTold (read.Done n grant) = (0, 0)
+readTold (read.Refused k p) = (causeNumber k, p)
+
+abbrev pub auditTold : Answer → ℕ × ℕ
+auditTold Accepted = (0, 0)
+auditTold (Refused k p) = (causeNumber k, p)
+
 -- the answers to calls one after the other, each with the ledger that the last one handed back
-abbrev pub answersTo : Ledger → List (Call (List ℕ)) → List Answer
+abbrev pub answersTo : Ledger → List (Call (List ℕ)) → List (ℕ × ℕ)
 answersTo s [] = []
-answersTo s (x ∷ xs) = auditing s (x .number) (x .container) .answer ∷ answersTo (auditing s (x .number) (x .container) .ledger) xs
+answersTo s (x ∷ xs) = auditTold (auditing s (x .number) (x .container) .answer) ∷ answersTo (auditing s (x .number) (x .container) .ledger) xs
 
 -- a call of direction d
 abbrev pub call : ℕ → List (ℕ × ℕ) → Call (List ℕ)
@@ -79,11 +89,11 @@ pub record Marked : Type 0 where
   pub m4 : reading (readerWith 0 []) (longAtG9 127) 352 .reader .len ≡ 60
   pub m5 : reading (readerWith 1 []) (longAtG9 247) 352 .reader .len ≡ 40
   -- M6 "Resp2, Resp2, Resp in group 0: cause 12, place 0"; M7 "Resp, Resp2, Resp: accepted"
-  pub m6 : reading (readerWith 0 []) (groupOf 4 4 3) 352 .answer ≡ read.Refused TooManyResponses 0
+  pub m6 : readTold (reading (readerWith 0 []) (groupOf 4 4 3) 352 .answer) ≡ (12, 0)
   pub m7 : reading (readerWith 0 []) (groupOf 3 4 3) 352 .answer ≡ read.Done 43 noGrant
   -- M8 "capacity 2: granting 2 passes, granting 3 is cause 16"
-  pub m8 : answersTo (freshLedger 0 (receiverWith 2) (receiverWith 2)) (call 0 (grantsResponses 2) ∷ []) ≡ Accepted ∷ []
-  pub m8-refused : answersTo (freshLedger 0 (receiverWith 2) (receiverWith 2)) (call 0 (grantsResponses 3) ∷ []) ≡ Refused GrantedOverCapacity 9 ∷ []
+  pub m8 : answersTo (freshLedger 0 (receiverWith 2) (receiverWith 2)) (call 0 (grantsResponses 2) ∷ []) ≡ (0, 0) ∷ []
+  pub m8-refused : answersTo (freshLedger 0 (receiverWith 2) (receiverWith 2)) (call 0 (grantsResponses 3) ∷ []) ≡ (16, 9) ∷ []
   -- M9 "300 is AC 02; 80 00 is broken"
   pub m9 : number 300 ≡ 172 ∷ 2 ∷ []
   pub m9-read : readNumber (172 ∷ 2 ∷ []) ≡ Value 300 2
@@ -91,4 +101,4 @@ pub record Marked : Type 0 where
   -- M10 "pool 11, capacity 1, one granted; DataS begins at G9 in X. A new grant of 1 now is cause 16, and passes after the next container
   -- finishes it."
   pub m10 : answersTo (freshLedger 0 (receiverWith 1) (receiverWith 1)) (call 1 (grantsData 1) ∷ call 0 dataAtG9 ∷ call 1 (grantsData 1) ∷ call 0 [] ∷ call 1 (grantsData 1) ∷ [])
-      ≡ Accepted ∷ Accepted ∷ Refused GrantedOverCapacity 11 ∷ Accepted ∷ Accepted ∷ []
+      ≡ (0, 0) ∷ (0, 0) ∷ (16, 11) ∷ (0, 0) ∷ (0, 0) ∷ []
