@@ -23,10 +23,10 @@ use Rattle.reader.specs.Keeps.{progress, cellOf, endedTo, KeepsGranule}
 use Rattle.reader.specs.Reading.{carryOk}
 use Rattle.reader.specs.Rules.{startBit, Origin, There, front, next, full, before, GoesOn}
 use Rattle.reader.specs.Rules.Origin.{carry, at}
-use Rattle.reader.specs.Completion.{granulesOf, kept, gather, Ended, Completes, In, Rising, bytesOf, InOrder, CarriesOn}
+use Rattle.reader.specs.Completion.{soFar, Ended, Completes, In, Rising, bytesOf, InOrder, CarriesOn}
 use Rattle.reader.proofs.ProgressLaws.{carry-of}
 use Rattle.reader.proofs.TrackLaws.{carry-firm}
-use Rattle.reader.proofs.OccupyLaws.{full-none, granule-sized, soFar, Under, Follow, on-goes, goes-on, far-owed, far-wide, before-wide, before-narrow, front-long}
+use Rattle.reader.proofs.OccupyLaws.{full-none, granule-sized, Under, Follow, on-goes, goes-on, far-owed, far-wide, before-wide, before-narrow, front-long}
 
 -- ---- lists of messages
 in-left : (e : Ended) (a b : List Ended) → In e a → In e (a ++ b)
@@ -64,10 +64,6 @@ full-grows fm s g (suc h) l =
     (λ (t : eqb g (suc h) ≡ false). let d = eqb-false g (suc h) t in let i = full-grows fm s g h (omega arith) in rw (length-append (full fm s h) (pick (leb s h && eqb (fm .size h) 20) (h ∷ []) [])) (omega arith))
     (cases (eqb g (suc h)))
 
-kept-far : (fm : Format) (m c : List ℕ) (o : Origin) (g : ℕ) → kept m o ++ gather fm c (granulesOf fm o g) ≡ soFar fm m c o g
-kept-far fm m c carry g = refl
-kept-far fm m c (at s) g = refl
-
 module _ (fm : Format) (law : Lawful fm) (m c : List ℕ) (n256 : length c ≡ 256) (valid : carryOk m ≡ true) where
   abbrev Done : Ended → Type 0
   Done e = Completes fm m c e
@@ -81,9 +77,9 @@ module _ (fm : Format) (law : Lawful fm) (m c : List ℕ) (n256 : length c ≡ 2
   done-same e f x y o l =
       ended-same e f o l
       (x .cut
-      ∙ ap (λ (k : ℕ). take k (kept m (e .origin) ++ gather fm c (granulesOf fm (e .origin) (suc (e .last))))) (done-size e f x y o)
-      ∙ ap (λ (r : Origin). take (y .size) (kept m r ++ gather fm c (granulesOf fm r (suc (e .last))))) o
-      ∙ ap (λ (k : ℕ). take (y .size) (kept m (f .origin) ++ gather fm c (granulesOf fm (f .origin) (suc k)))) l ∙ sym (y .cut))
+      ∙ ap (λ (k : ℕ). take k (soFar fm m c (e .origin) (suc (e .last)))) (done-size e f x y o)
+      ∙ ap (λ (r : Origin). take (y .size) (soFar fm m c r (suc (e .last)))) o
+      ∙ ap (λ (k : ℕ). take (y .size) (soFar fm m c (f .origin) (suc k))) l ∙ sym (y .cut))
 
   not-later : (e f : Ended) → Done e → Done f → e .origin ≡ f .origin → e .last < f .last → ⊥
   not-later e f x y o l = ⊎-elim begins goes (y .lies)
@@ -176,7 +172,7 @@ module _ (fm : Format) (law : Lawful fm) (m c : List ℕ) (n256 : length c ≡ 2
                 inside = b;
                 lies = inr v;
                 all = omega (arith, q .1, q .2);
-                cut = ap (λ (j : ℕ). take j (p ++ x)) (q .1) ∙ ap (take n) (q .0 ∙ sym (kept-far fm m c o (suc g)));
+                cut = ap (λ (j : ℕ). take j (p ++ x)) (q .1) ∙ ap (take n) (q .0);
               })
               refl
               (λ f d e. ⊎-elim (λ a. absurd (not-start (a .1))) (λ a. fol .same (f .origin) o (d .size) n (goes-under (f .origin) (d .size) (a .0)) (goes-under o n v)) (comes f d e)))
@@ -277,7 +273,7 @@ module _ (fm : Format) (law : Lawful fm) (m c : List ℕ) (n256 : length c ≡ 2
     search-last (suc j) g s h l =
         ⊎-elim
         (λ (a : leb n (before fm m c o (suc g)) ≡ true). (
-          record { origin = o; last = g; bytes = take n (kept m o ++ gather fm c (granulesOf fm o (suc g))) },
+          record { origin = o; last = g; bytes = take n (soFar fm m c o (suc g)) },
           record { size = n; there = t; sized = r; inside = omega arith; lies = inr (record { there = t; bytes = r; later = h; wide = twenty (leb-true n (before fm m c o (suc g)) a); more = l }); all = leb-true n (before fm m c o (suc g)) a; cut = refl },
           refl,
           omega arith,
@@ -307,7 +303,7 @@ module _ (fm : Format) (law : Lawful fm) (m c : List ℕ) (n256 : length c ≡ 2
   has-last (at s) n t r fits =
       ⊎-elim
       (λ (a : leb n (length (granule fm s c)) ≡ true). (
-        record { origin = at s; last = s; bytes = take n (gather fm c (s ∷ full fm (s + 1) (suc s))) },
+        record { origin = at s; last = s; bytes = take n (soFar fm m c (at s) (suc s)) },
         record { size = n; there = t; sized = r; inside = t .0; lies = inl refl; all = rw (full-none fm (s + 1) (suc s) (omega arith)) (omega (arith, leb-true n (length (granule fm s c)) a)); cut = refl },
         refl,
         t .0,
@@ -350,8 +346,8 @@ module _ (fm : Format) (law : Lawful fm) (m c : List ℕ) (n256 : length c ≡ 2
         ahead carry t = omega arith
         ahead (at s) t = omega (arith, t .0)
 
-        left : (o : Origin) (n : ℕ) → There fm c o → Bytes (front fm m c o) n → before fm m c o 12 < n → progress fm c m 12 ≡ kept m o ++ gather fm c (granulesOf fm o 12)
-        left o n t r l = f .only o n (record { there = t; bytes = r; later = ahead o t; more = l }) ∙ sym (kept-far fm m c o 12)
+        left : (o : Origin) (n : ℕ) → There fm c o → Bytes (front fm m c o) n → before fm m c o 12 < n → progress fm c m 12 ≡ soFar fm m c o 12
+        left o n t r l = f .only o n (record { there = t; bytes = r; later = ahead o t; more = l })
 
         nothing : ((o : Origin) (n : ℕ) → There fm c o → Bytes (front fm m c o) n → n ≤ before fm m c o 12) → progress fm c m 12 ≡ []
         nothing h =

@@ -25,7 +25,7 @@ use Rattle.reader.specs.Keeps.{progress, cellOf, KeepsGranule}
 use Rattle.reader.specs.Reading.{carryOk}
 use Rattle.reader.specs.Rules.{startBit, Starts, Origin, There, front, next, full, before, GoesOn}
 use Rattle.reader.specs.Rules.Origin.{carry, at}
-use Rattle.reader.specs.Completion.{gather}
+use Rattle.reader.specs.Completion.{gather, soFar}
 use Rattle.reader.proofs.TrackLaws.{carry-firm}
 
 -- ---- the granules of 20 bytes
@@ -49,10 +49,6 @@ module _ (fm : Format) (s : ℕ) where
 pub gather-append : (fm : Format) (c a b : List ℕ) → gather fm c (a ++ b) ≡ gather fm c a ++ gather fm c b
 gather-append fm c [] b = refl
 gather-append fm c (g ∷ a) b = rw (gather-append fm c a b) (sym (append-assoc (granule fm g c) (gather fm c a) (gather fm c b)))
-
--- what was read of a message when granule g is reached
-abbrev pub soFar : Format → List ℕ → List ℕ → Origin → ℕ → List ℕ
-soFar fm m c o g = front fm m c o ++ gather fm c (full fm (next o) g)
 
 -- a message that is not all read when granule g is reached
 pub record Under (fm : Format) (m c : List ℕ) (o : Origin) (n g : ℕ) : Type 0 where

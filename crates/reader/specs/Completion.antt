@@ -1,30 +1,23 @@
 -- Order of completion (document 01, "The writer's one way": "The reader writes finished messages as records, in order of their last
 -- granules"): which messages end in a container, where, and with which bytes, by the granules that each lies in.
-use Prim.Native.Nat.{ℕ, suc, _+_, _≤_, _<_}
+use Prim.Native.Nat.{ℕ, suc, _≤_, _<_}
 use mathlib.Core.Path.{_≡_}
 use mathlib.Core.List.{List, [], _∷_, _++_}
 use mathlib.Core.Logic.{_⊎_}
 use lib.ListN.{take}
 use Rattle.container.specs.Layout.{Format, granule}
 use Rattle.message.specs.HeadRules.{Bytes}
-use Rattle.reader.specs.Rules.{Origin, There, front, full, before, GoesOn}
+use Rattle.reader.specs.Rules.{Origin, There, front, next, full, before, GoesOn}
 use Rattle.reader.specs.Rules.Origin.{carry, at}
-
--- the granules below g that a message has for itself: those of 20 bytes from G0 on, or the one that it starts in and those of 20 bytes
--- behind it
-abbrev pub granulesOf : Format → Origin → ℕ → List ℕ
-granulesOf fm carry g = full fm 0 g
-granulesOf fm (at s) g = s ∷ full fm (s + 1) g
-
--- what was carried in of it
-abbrev pub kept : List ℕ → Origin → List ℕ
-kept m carry = m
-kept m (at s) = []
 
 -- the bytes of granules, one behind the other
 abbrev pub gather : Format → List ℕ → List ℕ → List ℕ
 gather fm c [] = []
 gather fm c (g ∷ gs) = granule fm g c ++ gather fm c gs
+
+-- the bytes that a message has room for before granule g: what was carried or its first granule, and those of 20 bytes from the next on
+abbrev pub soFar : Format → List ℕ → List ℕ → Origin → ℕ → List ℕ
+soFar fm m c o g = front fm m c o ++ gather fm c (full fm (next o) g)
 
 -- a message that has ended: which one it is, its last granule, its bytes
 pub record Ended : Type 0 where
@@ -41,7 +34,7 @@ pub record Completes (fm : Format) (m c : List ℕ) (e : Ended) : Type 0 where
   pub lies : (e .origin ≡ at (e .last)) ⊎ GoesOn fm m c (e .origin) size (e .last)
   pub all : size ≤ before fm m c (e .origin) (suc (e .last))
   -- its bytes are what was carried of it and its granules' bytes, cut at its size
-  pub cut : e .bytes ≡ take size (kept m (e .origin) ++ gather fm c (granulesOf fm (e .origin) (suc (e .last))))
+  pub cut : e .bytes ≡ take size (soFar fm m c (e .origin) (suc (e .last)))
 
 -- e is one of a list
 abbrev pub In : Ended → List Ended → Type 0
@@ -72,7 +65,7 @@ pub record InOrder (fm : Format) (m c : List ℕ) (xs : List (List ℕ)) : Type 
 
 -- r is what is carried on: the bytes so far of the message that does not end here, or none
 pub record CarriesOn (fm : Format) (m c r : List ℕ) : Type 0 where
-  pub left : (o : Origin) (n : ℕ) → There fm c o → Bytes (front fm m c o) n → before fm m c o 12 < n → r ≡ kept m o ++ gather fm c (granulesOf fm o 12)
+  pub left : (o : Origin) (n : ℕ) → There fm c o → Bytes (front fm m c o) n → before fm m c o 12 < n → r ≡ soFar fm m c o 12
   pub none : ((o : Origin) (n : ℕ) → There fm c o → Bytes (front fm m c o) n → n ≤ before fm m c o 12) → r ≡ []
 
 -- the message of which m was carried ends in container c, whatever else that holds
