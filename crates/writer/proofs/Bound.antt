@@ -326,6 +326,10 @@ going-none f l at w g =
 
 -- ---- all fills of a list
 
+-- a grant of nothing to any plane
+pub plane-grants-nothing : (p : ℕ) → p < 8 → GrantsNothing (record { shc = false; rp = p; req = 0; rsp = 0; snp = 0; dat = 0 })
+plane-grants-nothing p b = record { no-counts = refl; low = b; allowed = refl }
+
 module _ (f : ℕ) (small : f < 2) (l : List ℕ) (hb : IsBytes l) (short : length l ≤ 4096) (n : ℕ → Grant) (nothing-granted : (i : ℕ) → GrantsNothing (n i)) where
   abbrev Fillings : List (List ℕ) → ℕ → Writer → Type 0
   Fillings cs at w = FillingLeft (writerWith f []) l cs (firstGrants n (length cs)) at w
