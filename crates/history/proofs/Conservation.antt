@@ -7,10 +7,11 @@ use mathlib.Core.Bool.{true}
 use Rattle.history.specs.Trace.{Trace, start, _▷_, _⊑_, whole, shorter}
 use Rattle.history.specs.Link.{Direction, direction0, direction1, opposite, Link, Lawful}
 use Rattle.history.specs.History.{Event, leaves, passes, arrives, frees, left, arrived, freed, stateAfter, total, ungranted, returning, heldAtSender, inFlight, buffered, Flows, History}
+use Rattle.history.specs.Delays.{Readable}
 use Rattle.history.proofs.Order.{in-order, total-grows, total-split, ⊑-trans, append-grows, append-one-direction, freed-by}
 
 module _ (K : Link) where
-  open Link K using (Container, reads, grants, begins, finishes, carried, stateOk, capacity)
+  open Link K using (Container, grants, begins, finishes, carried, stateOk, capacity)
 
   -- no more is granted than there were slots, no more begun than credits arrived, and no more freed than messages arrived
   abbrev pub Bounded : Trace (Event Container) → Direction → ℕ → Type 0
@@ -45,15 +46,10 @@ module _ (K : Link) where
       (out-within-in h (v .0) d p)
       (λ de pq. let i = out-within-in h (v .0) d p in let b : 1 ≤ buffered K d p h = rw (de, pq) (v .1) in omega arith)
 
-  -- each container reads in the state behind those before it
-  abbrev pub Readable : Direction → Trace Container → Type 0
-  Readable d start = Unit {0}
-  Readable d (cs ▷ c) = Readable d cs × (reads d (stateAfter K d cs) c ≡ true)
-
-  pub left-reads : (h : Trace (Event Container)) → History K h → (d : Direction) → Readable d (left d h)
+  pub left-reads : (h : Trace (Event Container)) → History K h → (d : Direction) → Readable K d (left d h)
   left-reads start v d = tt
   left-reads (h ▷ leaves e c) v d =
-      append-one-direction (λ d l. Readable d l) (λ d. left d h) e c (left-reads h (v .0) e, v .1 .0) (left-reads h (v .0) (opposite e)) d
+      append-one-direction (λ d l. Readable K d l) (λ d. left d h) e c (left-reads h (v .0) e, v .1 .0) (left-reads h (v .0) (opposite e)) d
   left-reads (h ▷ passes e c) v d = left-reads h (v .0) d
   left-reads (h ▷ arrives e c) v d = left-reads h (v .0) d
   left-reads (h ▷ frees e q) v d = left-reads h (v .0) d
@@ -64,12 +60,12 @@ module _ (K : Link) where
   moment-history (shorter k) v = moment-history k (v .0)
 
   module _ (L : Lawful K) where
-    pub state-valid : (d : Direction) (cs : Trace Container) → Readable d cs → stateOk d (stateAfter K d cs) ≡ true
+    pub state-valid : (d : Direction) (cs : Trace Container) → Readable K d cs → stateOk d (stateAfter K d cs) ≡ true
     state-valid d start r = L .fresh-ok d
     state-valid d (cs ▷ c) r = L .next-ok d (stateAfter K d cs) c (state-valid d cs (r .0)) (r .1)
 
     -- what has begun has finished or is carried
-    pub begun-or-carried : (d : Direction) (p : ℕ) (cs : Trace Container) → Readable d cs
+    pub begun-or-carried : (d : Direction) (p : ℕ) (cs : Trace Container) → Readable K d cs
         → total K begins d cs p ≡ total K finishes d cs p + carried (stateAfter K d cs) p
     begun-or-carried d p start r = let z = L .none-at-first p in omega arith
     begun-or-carried d p (cs ▷ c) r =

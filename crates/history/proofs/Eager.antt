@@ -11,12 +11,13 @@ use Rattle.history.specs.Trace.{Trace, start, _▷_, _⊑_, whole}
 use Rattle.history.specs.Link.{Direction, direction0, direction1, opposite, Link, Lawful}
 use Rattle.history.specs.History.{Event, leaves, passes, arrives, frees, Entry, appendIf, left, passed, arrived, freed, tapRecord, stateAfter, total, ungranted, heldAtSender, buffered, Enabled, History, Tapped}
 use Rattle.history.specs.Books.{containersOf, Books}
+use Rattle.history.specs.Delays.{Readable}
 use Rattle.history.proofs.Order.{freed-by, append-one-direction, append-own}
-use Rattle.history.proofs.Conservation.{Readable, state-valid}
+use Rattle.history.proofs.Conservation.{state-valid}
 use Rattle.history.proofs.Sound.{containers-passed}
 use Rattle.history.proofs.OneMore.{WithinWith, within-needs}
 
-opposite-differs : (e : Direction) → opposite e ≡ e → ⊥
+pub opposite-differs : (e : Direction) → opposite e ≡ e → ⊥
 opposite-differs direction0 q = let z : _≡_ {A = ℕ} 0 1 = cc in omega arith
 opposite-differs direction1 q = let z : _≡_ {A = ℕ} 0 1 = cc in omega arith
 
@@ -48,20 +49,20 @@ module _ {A : Type 0} where
   freed-own direction0 q h = rw (eq-eqb q q refl)
   freed-own direction1 q h = rw (eq-eqb q q refl)
 
-  freed-elsewhere : (d e : Direction) (p q : ℕ) → (d ≡ e → p ≡ q → ⊥) → (h : Trace (Event A)) → freed d p (h ▷ frees e q) ≡ freed d p h
+  pub freed-elsewhere : (d e : Direction) (p q : ℕ) → (d ≡ e → p ≡ q → ⊥) → (h : Trace (Event A)) → freed d p (h ▷ frees e q) ≡ freed d p h
   freed-elsewhere d e p q n h = freed-by (λ m. m ≡ freed d p h) (freed d p h) d e p q refl (λ a b. absurd (n a b))
 
   repeat-freed : (e : Direction) (q k : ℕ) (h : Trace (Event A)) → freed e q (repeat k (frees e q) h) ≡ freed e q h + k
   repeat-freed e q zero h = omega arith
   repeat-freed e q (suc k) h = let i = repeat-freed e q k h in let j = freed-own e q (repeat k (frees e q) h) in omega arith
 
-  past-freed : (e : Direction) (k : ℕ → ℕ) (n p : ℕ) (h : Trace (Event A)) → n ≤ p → freed e p (repeatEach (frees e) k n h) ≡ freed e p h
+  pub past-freed : (e : Direction) (k : ℕ → ℕ) (n p : ℕ) (h : Trace (Event A)) → n ≤ p → freed e p (repeatEach (frees e) k n h) ≡ freed e p h
   past-freed e k zero p h z = refl
   past-freed e k (suc n) p h z =
       repeat-keeps (freed e p) (frees e n) (freed-elsewhere e e p n (λ _ q. omega arith)) (k n) (repeatEach (frees e) k n h)
       ∙ past-freed e k n p h (omega arith)
 
-  each-freed : (e : Direction) (k : ℕ → ℕ) (n p : ℕ) (h : Trace (Event A)) → p < n
+  pub each-freed : (e : Direction) (k : ℕ → ℕ) (n p : ℕ) (h : Trace (Event A)) → p < n
       → freed e p (repeatEach (frees e) k n h) ≡ freed e p h + k p
   each-freed e k zero p h z = omega arith
   each-freed e k (suc n) p h z = go (λ y. each-freed e k n p h y) (decLe n p)
@@ -92,7 +93,7 @@ module _ (K : Link) where
         omega arith),
   )
 
-  each-history : (e : Direction) (k : ℕ → ℕ) (n : ℕ) (h : Trace (Event Container)) → History K h
+  pub each-history : (e : Direction) (k : ℕ → ℕ) (n : ℕ) (h : Trace (Event Container)) → History K h
       → ((p : ℕ) → freed e p h + k p ≤ total K finishes e (arrived e h) p) → History K (repeatEach (frees e) k n h)
   each-history e k zero h v z = v
   each-history e k (suc n) h v z =
@@ -132,7 +133,7 @@ module _ (K : Link) where
   eager-passed : (d : Direction) (t : Trace (Entry Container)) → passed d (eager t) ≡ containersOf d t
   eager-passed d t = sym (containers-passed d (eager t)) ∙ ap (containersOf d) (eager-tap t)
 
-  ungranted-opposite : (e : Direction) (p : ℕ) (h : Trace (Event Container))
+  pub ungranted-opposite : (e : Direction) (p : ℕ) (h : Trace (Event Container))
       → ungranted K (opposite e) p h ≡ (capacity (opposite e) p + freed (opposite e) p h) - total K grants e (left e h) p
   unfolding ungranted
   ungranted-opposite direction0 p h = refl

@@ -11,3 +11,4 @@ pub mod Demand
 pub mod InterleavingLaws
 pub mod Interleaved
 pub mod Example
+pub mod DelayLaws

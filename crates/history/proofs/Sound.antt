@@ -6,8 +6,9 @@ use Rattle.history.specs.Trace.{Trace, start, _▷_, _⊑_, whole, short
 use Rattle.history.specs.Link.{Direction, opposite, Link}
 use Rattle.history.specs.History.{Event, leaves, passes, arrives, frees, appendIf, passed, tapRecord, total, History}
 use Rattle.history.specs.Books.{containersOf, Within, Books}
+use Rattle.history.specs.Delays.{Readable}
 use Rattle.history.proofs.Order.{in-order, total-grows}
-use Rattle.history.proofs.Conservation.{out-within-in, Readable, left-reads}
+use Rattle.history.proofs.Conservation.{out-within-in, left-reads}
 
 -- the containers of a tap record are those that passed
 pub containers-passed : {A : Type 0} (d : Direction) (h : Trace (Event A)) → containersOf d (tapRecord h) ≡ passed d h

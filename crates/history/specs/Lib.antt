@@ -7,3 +7,4 @@ pub mod Calls
 pub mod Audit
 pub mod Demand
 pub mod Interleaving
+pub mod Delays

@@ -1,6 +1,6 @@
 -- Fills of one list with no grants: where the first is accepted, all are. Assumes nothing.
 use Prim.Native.Nat.{ℕ, _+_, _-_, _≤_, _<_}
-use mathlib.Core.Path.{_≡_, sym, ap, _∙_, subst}
+use mathlib.Core.Path.{_≡_, refl, sym, ap, _∙_, subst}
 use mathlib.Core.List.{List, []}
 use mathlib.Core.Logic.{_⊎_, inr, ⊎-elim}
 use native.Mathlib.Omega.{arith}
@@ -62,7 +62,7 @@ module _ (f : ℕ) (small : f < 2) (l : List ℕ) (hb : IsBytes l) where
     next = writerWith f (owesAfter (formatOf f) zeroGrant (g .1 .tail) (drop at l))
 
     call : Fills w (drop at l) zeroGrant (filled (formatOf f) zeroGrant (g .1 .tail) (drop at l)) used next
-    call = going-fills f l (g .0) at w (g .1) small hb short
+    call = going-fills f l (g .0) at w (g .1) zeroGrant (omega arith) refl small hb short
 
     -- the fill as the code makes it
     module _ (r : Step) (e : r ≡ filling w rest zeroGrant 256) where
@@ -76,7 +76,7 @@ module _ (f : ℕ) (small : f < 2) (l : List ℕ) (hb : IsBytes l) where
       goes-on u q =
           let s : used ≡ u = same-used (r .answer) used u answered-used q in
           let n : next ≡ r .writer = sym (ap (λ (x : Step). x .writer) step ∙ call .next) in
-          (g .0 - 1, subst (λ (v : ℕ). Going f l (g .0 - 1) (at + v) (r .writer)) s (subst (Going f l (g .0 - 1) (at + used)) n (going-more f l (g .0) at w (g .1) _ used next call)))
+          (g .0 - 1, subst (λ (v : ℕ). Going f l (g .0 - 1) (at + v) (r .writer)) s (subst (Going f l (g .0 - 1) (at + used)) n (going-more f l (g .0) at w (g .1) zeroGrant refl _ used next call)))
 
       never-refused : (c : Cause) (p : ℕ) → r .answer ≡ answer.Refused c p → ⊥
       never-refused c p q = never-both (r .answer) used c p answered-used q

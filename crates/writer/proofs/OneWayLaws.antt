@@ -272,6 +272,14 @@ one-way-exactly fm n l t es used owes = (
   λ h. (ap length (h .0) ∙ plan-length fm n l 12 0 (cursorOf t), rw (h .0, h .1, h .2) (one-way fm n l t)),
 )
 
+-- any two that go the one way have the same twelve cells, use the same bytes and owe the same
+pub one-way-only : (fm : Format) (n : Grant) (l t : List ℕ) (es es′ : List Cell) (used used′ : ℕ) (owes owes′ : List ℕ) → length es ≡ 12 → length es′ ≡ 12
+    → Way fm n l es used owes 0 t 0 → Way fm n l es′ used′ owes′ 0 t 0 → (es ≡ es′) × (used ≡ used′) × (owes ≡ owes′)
+one-way-only fm n l t es es′ used used′ owes owes′ c c′ w w′ =
+    let a = one-way-exactly fm n l t es used owes .0 (c, w) in
+    let b = one-way-exactly fm n l t es′ used′ owes′ .0 (c′, w′) in
+    (a .0 ∙ sym (b .0), a .1 ∙ sym (b .1), a .2 ∙ sym (b .2))
+
 -- an Activation beside a count in the header grant has no legal granule
 pub activation-waits : (fm : Format) (n : Grant) (es : List Cell) (m : List ℕ) → noCounts n ≡ false → isMisc m activation ≡ true → (j : ℕ) → mayStart fm n es j m ≡ false
 activation-waits fm n es m c a j = rw (a, c, and-false (placed fm j m))

@@ -1,13 +1,14 @@
 -- Sequences of calls of the writer and of the reader (demand 2).
-use Prim.Native.Nat.{ℕ, _+_, _≤_}
+use Prim.Native.Nat.{ℕ, zero, suc, _+_, _≤_, _<_}
 use mathlib.Core.Path.{_≡_}
-use mathlib.Core.Bool.{false}
+use mathlib.Core.Bool.{true, false}
 use mathlib.Core.List.{List, [], _∷_, _++_}
 use lib.ListN.{length, take, drop}
 use lib.Dec.{eqb}
 use Rattle.lists.specs.Pick.{pick}
 use Rattle.lists.specs.Parts.{IsBytes}
 use Rattle.lists.specs.Reordering.{Reordered}
+use Rattle.container.specs.Grants.{noCounts, planeAllowed}
 use Rattle.container.specs.declared.grant.Grant.{Grant}
 use Rattle.message.specs.Kinds.{pays}
 use Rattle.record.specs.Records.{recordsOf}
@@ -41,17 +42,27 @@ pub data FillingLeft (w : Writer) (l : List ℕ) : List (List ℕ) → List Gran
 abbrev pub zeroGrant : Grant
 zeroGrant = record { shc = false; rp = 0; req = 0; rsp = 0; snp = 0; dat = 0 }
 
--- accepted fills of one list under one grant, each with what is left of the list: the containers, and the bytes used
-pub data FillingList (w : Writer) (l : List ℕ) (n : Grant) : List (List ℕ) → ℕ → Writer → Type 0 where
-  none : FillingList w l n [] 0 w
-  then : {cs : List (List ℕ)} {at : ℕ} {w₁ w₂ : Writer} {c : List ℕ} (u : ℕ)
-      → FillingList w l n cs at w₁ → Fills w₁ (drop at l) n c u w₂ → FillingList w l n (cs ++ (c ∷ [])) (at + u) w₂
+-- a grant of nothing that the writer takes: its four counts are zero, and its form is allowed
+pub record GrantsNothing (n : Grant) : Type 0 where
+  pub no-counts : noCounts n ≡ true
+  pub low : n .rp < 8
+  pub allowed : planeAllowed n ≡ true
 
--- fills of a list under zero grants that use it up with no tail owed, at most p of them
-pub record UsedUp (f : ℕ) (l : List ℕ) (p : ℕ) : Type 0 where
+-- grants whose four counts are zero
+abbrev pub AllNoCounts : List Grant → Type 0
+AllNoCounts [] = Unit {0}
+AllNoCounts (n ∷ ns) = (noCounts n ≡ true) × AllNoCounts ns
+
+-- the first k grants, n i being that of fill i
+abbrev pub firstGrants : (ℕ → Grant) → ℕ → List Grant
+firstGrants n zero = []
+firstGrants n (suc k) = firstGrants n k ++ (n k ∷ [])
+
+-- fills of a list, fill i under the grant n i, that use it up with no tail owed, at most p of them
+pub record UsedUp (f : ℕ) (l : List ℕ) (n : ℕ → Grant) (p : ℕ) : Type 0 where
   pub containers : List (List ℕ)
   pub writer : Writer
-  pub fills : FillingList (writerWith f []) l zeroGrant containers (length l) writer
+  pub fills : FillingLeft (writerWith f []) l containers (firstGrants n (length containers)) (length l) writer
   pub owes-none : length (tailOf writer) ≡ 0
   pub few : length containers ≤ p
 
