@@ -17,7 +17,7 @@ use Rattle.writer.specs.declared.writer.Answer.the-variants.{Filled}
 use Rattle.writer.proofs.AnswerLaws.{filling-sound}
 use Rattle.writer.proofs.Bound.{within-n, within-2n}
 use Rattle.writer.proofs.LegalLaws.{plan-legal, plan-beneath}
-use Rattle.writer.proofs.OneWayLaws.{one-way-exactly}
+use Rattle.writer.proofs.OneWayLaws.{one-way-exactly, one-way-only}
 use Rattle.writer.proofs.Return.{out-so-far, list-returned}
 use Rattle.demands.specs.Demand2.{Demand2, Laid}
 
@@ -47,8 +47,9 @@ demand2 = record {
   in-order = hands-out;
   carried-ends = carried-ends;
   one-way = one-way;
+  one-way-only = one-way-only;
   returned = list-returned;
   so-far = out-so-far;
   kinds = λ m h. pays-charged m (is-message m h);
-  bound = λ f l ms small hb short e a. (within-n f l ms small hb short e a, within-2n f l ms small hb short e a);
+  bound = λ f l ms n small hb short e a q. (within-n f l ms n small hb short e a q, within-2n f l ms n small hb short e a q);
 }

@@ -6,7 +6,7 @@ use mathlib.Core.List.{List, []}
 use mathlib.Core.Logic.{_↔_}
 use lib.ListN.{length}
 use Rattle.lists.specs.Parts.{IsBytes}
-use Rattle.container.specs.Layout.{formatOf, wide}
+use Rattle.container.specs.Layout.{Format, formatOf, wide}
 use Rattle.container.specs.Table.{Table}
 use Rattle.container.specs.Grants.{headerGrant}
 use Rattle.container.specs.declared.grant.Grant.{Grant}
@@ -23,7 +23,7 @@ use Rattle.reader.specs.declared.reader.Answer.the-variants.{Done}
 use Rattle.writer.specs.Laying.{containerOf}
 use Rattle.writer.specs.OneWay.{Way, mayStart, mayLie, KeepsWith, KeepsBeneath}
 use Rattle.writer.specs.Filling.{tailOf, writerWith, filling, fillBytes}
-use Rattle.writer.specs.Calls.{Filling, FillingLeft, UsedUp, AllOut, OutSoFar}
+use Rattle.writer.specs.Calls.{Filling, FillingLeft, GrantsNothing, UsedUp, AllOut, OutSoFar}
 use Rattle.writer.specs.declared.writer.Writer.{Writer}
 use Rattle.writer.specs.declared.writer.Answer.the-variants.{Filled}
 
@@ -58,6 +58,9 @@ pub record Demand2 : Type 0 where
       → CarryEnds (formatOf (s .format)) (carried s) c
   -- "The writer fills each container in the one way the paper fixes."
   pub one-way : (w : Writer) (l : List ℕ) (n : Grant) (c : List ℕ) (u : ℕ) → filling w l n (length c) .answer ≡ Filled u → Laid w l n c u
+  -- which is one: no other twelve cells, bytes used or bytes owed go that way
+  pub one-way-only : (fm : Format) (n : Grant) (l t : List ℕ) (es es′ : List Cell) (used used′ : ℕ) (owes owes′ : List ℕ) → length es ≡ 12 → length es′ ≡ 12
+      → Way fm n l es used owes 0 t 0 → Way fm n l es′ used′ owes′ 0 t 0 → (es ≡ es′) × (used ≡ used′) × (owes ≡ owes′)
   -- "Once a writer started fresh has used up a list and owes no tail, reading its containers in order from a fresh state gives the same
   -- messages in the same order", which document 02's K8 reads as "each once, with those that pay one kind [..] in their order"
   pub returned : (f : ℕ) (l : List ℕ) (cs : List (List ℕ)) (ns : List Grant) (w : Writer) → f < 2
@@ -66,6 +69,7 @@ pub record Demand2 : Type 0 where
   pub so-far : (f : ℕ) (cs : List (List ℕ)) (ns : List Grant) (used : List ℕ) (w : Writer) → f < 2 → Filling (writerWith f []) cs ns used w → OutSoFar f cs ns used w
   -- the kinds that order them are those of the pools that the audit charges
   pub kinds : (m : List ℕ) → isMessage m ≡ true → PaysAsCharged m
-  -- document 01: from fresh and with zero grants, n messages are all finished within 2n containers; within n, too
-  pub bound : (f : ℕ) (l : List ℕ) (ms : List (List ℕ)) → f < 2 → IsBytes l → length l ≤ 4096 → l ≡ recordsOf ms → AllMessages ms
-      → UsedUp f l (length ms) × UsedUp f l (2 * length ms)
+  -- "From fresh and with zero grants, n messages are all finished within 2n containers", and within n, whatever the grants, one for each
+  -- container, as long as their counts are zero and their form is allowed
+  pub bound : (f : ℕ) (l : List ℕ) (ms : List (List ℕ)) (n : ℕ → Grant) → f < 2 → IsBytes l → length l ≤ 4096 → l ≡ recordsOf ms → AllMessages ms
+      → ((i : ℕ) → GrantsNothing (n i)) → UsedUp f l n (length ms) × UsedUp f l n (2 * length ms)
