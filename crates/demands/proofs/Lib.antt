@@ -1,3 +1,8 @@
+pub mod CellFaults
+pub mod ContainerFaults
+pub mod ReadFaults
+pub mod AuditFaults
+pub mod FillFaults
 pub mod Refusals
 pub mod Packing
 pub mod TapLaws
