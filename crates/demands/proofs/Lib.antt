@@ -3,6 +3,7 @@ pub mod ContainerFaults
 pub mod ReadFaults
 pub mod AuditFaults
 pub mod FillFaults
+pub mod NamedLaws
 pub mod Refusals
 pub mod Packing
 pub mod TapLaws
