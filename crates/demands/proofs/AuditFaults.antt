@@ -20,18 +20,19 @@ use Rattle.container.specs.Grants.{headerGrant}
 use Rattle.container.specs.declared.grant.Grant.{Grant}
 use Rattle.message.specs.Heads.{typeOf, opOf, classOf, isMisc, miscU, crdtGrant}
 use Rattle.message.specs.Charges.{sharedCrdt, resPlane}
-use Rattle.message.specs.declared.heads.Class.{Class}
-use Rattle.message.specs.declared.heads.Class.the-variants.{Unknown, Request, Response, Snoop, Data, RequestData, Misc}
+use Rattle.message.specs.HeadRules.{among}
 use Rattle.reader.specs.Cells.{Cell, startings}
 use Rattle.reader.specs.Keeps.{progress, cellOf}
 use Rattle.reader.specs.Reading.{carried, stateChecks}
 use Rattle.reader.proofs.ProgressLaws.{listFrom, cells-of}
+use Rattle.ledger.specs.PoolRules.{grantIn, capacityOf}
 use Rattle.ledger.specs.Pools.{hasPool, paysReq, paysData, paysPush, messageChecks, grantChecks, allMessages, allGrants, paidTo, grantedTo, grantsIn}
 use Rattle.ledger.specs.Audit.{receiverOf, readerOf, heldOf, openOf, ledgerOk, opposite, begun, granted, heldChecks, roomChecks, auditChecks, answerOf, auditing}
 use Rattle.ledger.specs.declared.receiver.Receiver.{Receiver}
 use Rattle.ledger.specs.declared.ledger.Ledger.{Ledger}
 use Rattle.ledger.specs.declared.ledger.Answer.the-variants as answer
-use Rattle.demands.proofs.CellFaults.{turnOf, grantOfForm, PaymentCells, GrantCells, entryCell, AuditCells, dedicated, push, first, other, message, heading, granting, over, full}
+use Rattle.demands.specs.Faults.{PaymentFault, GrantFault, dedicated, push, dat0, dat1}
+use Rattle.demands.proofs.CellFaults.{turnOf, entryCell, AuditCells, message, heading, granting, over, full}
 use Rattle.cause.proofs.FirstLaws.{Site, tests, tests-append, Fails, fails-front, fails-back, Rises, rises-from, rises-to, rises-append, Sounds, sounds-append, First, None, Lists, listed-first, listed-none}
 use Rattle.demands.proofs.ContainerFaults.{ranked, tests-ranked, fails-as, guard-fails, fail-guard, and-fails, fail-left, fail-right, or-fails, not-zero, zero-not, containerSites, container-complete, container-rises, container-sound}
 use Rattle.demands.proofs.ReadFaults.{chain}
@@ -58,6 +59,36 @@ module _ (x : List Site) where
   only-fails false r k p t h = absurd t
 
 -- ---- 14 of a message
+-- no type of a list is over 10
+abbrev Types : List ℕ → Type 0
+Types [] = Unit {0}
+Types (a ∷ ts) = (a ≤ 10) × Types ts
+
+-- a type over 10 is none of a list of types
+none-over : (t : ℕ) → 10 < t → (ts : List ℕ) → Types ts → among ts t ≡ false
+none-over t h [] k = refl
+none-over t h (a ∷ ts) k = let b = k .0 in rw (ne-eqb t a (λ e. omega arith)) (none-over t h ts (k .1))
+
+-- what pays, by type
+pays-types : (t : ℕ) → (paysReq (classOf t) ≡ among (1 ∷ 2 ∷ 8 ∷ 9 ∷ []) t) × (paysData (classOf t) ≡ among (6 ∷ 7 ∷ []) t) × (paysPush (classOf t) ≡ among (8 ∷ 9 ∷ []) t)
+pays-types zero = (refl, refl, refl)
+pays-types (suc zero) = (refl, refl, refl)
+pays-types (suc (suc zero)) = (refl, refl, refl)
+pays-types (suc (suc (suc zero))) = (refl, refl, refl)
+pays-types (suc (suc (suc (suc zero)))) = (refl, refl, refl)
+pays-types (suc (suc (suc (suc (suc zero))))) = (refl, refl, refl)
+pays-types (suc (suc (suc (suc (suc (suc zero)))))) = (refl, refl, refl)
+pays-types (suc (suc (suc (suc (suc (suc (suc zero))))))) = (refl, refl, refl)
+pays-types (suc (suc (suc (suc (suc (suc (suc (suc zero)))))))) = (refl, refl, refl)
+pays-types (suc (suc (suc (suc (suc (suc (suc (suc (suc zero))))))))) = (refl, refl, refl)
+pays-types (suc (suc (suc (suc (suc (suc (suc (suc (suc (suc zero)))))))))) = (refl, refl, refl)
+pays-types (suc (suc (suc (suc (suc (suc (suc (suc (suc (suc (suc t))))))))))) =
+    let l : 10 < suc (suc (suc (suc (suc (suc (suc (suc (suc (suc (suc t)))))))))) = omega arith in (
+      sym (none-over (suc (suc (suc (suc (suc (suc (suc (suc (suc (suc (suc t))))))))))) l (1 ∷ 2 ∷ 8 ∷ 9 ∷ []) (omega arith, (omega arith, (omega arith, (omega arith, tt))))),
+      sym (none-over (suc (suc (suc (suc (suc (suc (suc (suc (suc (suc (suc t))))))))))) l (6 ∷ 7 ∷ []) (omega arith, (omega arith, tt))),
+      sym (none-over (suc (suc (suc (suc (suc (suc (suc (suc (suc (suc (suc t))))))))))) l (8 ∷ 9 ∷ []) (omega arith, (omega arith, tt))),
+    )
+
 module _ (r : Receiver) (m : List ℕ) where
   abbrev t : ℕ
   t = typeOf m
@@ -73,46 +104,19 @@ module _ (r : Receiver) (m : List ℕ) where
   payment-rises : (n : ℕ) → Rises n (paymentSites n) (n + 3)
   payment-rises n = (omega arith, (omega arith, (omega arith, omega arith)))
 
-  req-so : (k : Class) → T (paysReq k) → (k ≡ Request) ⊎ (k ≡ RequestData)
-  req-so Unknown h = absurd h
-  req-so Request h = inl refl
-  req-so Response h = absurd h
-  req-so Snoop h = absurd h
-  req-so Data h = absurd h
-  req-so RequestData h = inr refl
-  req-so Misc h = absurd h
-
-  data-so : (k : Class) → T (paysData k) → k ≡ Data
-  data-so Unknown h = absurd h
-  data-so Request h = absurd h
-  data-so Response h = absurd h
-  data-so Snoop h = absurd h
-  data-so Data h = refl
-  data-so RequestData h = absurd h
-  data-so Misc h = absurd h
-
-  push-so : (k : Class) → T (paysPush k) → k ≡ RequestData
-  push-so Unknown h = absurd h
-  push-so Request h = absurd h
-  push-so Response h = absurd h
-  push-so Snoop h = absurd h
-  push-so Data h = absurd h
-  push-so RequestData h = refl
-  push-so Misc h = absurd h
-
-  plane-fault : (not (paysReq (classOf t)) || ltb (resPlane (getD m 0 0)) (r .planes)) ≡ false → PaymentCells r m 0 (1 + resPlane (getD m 0 0))
+  plane-fault : (not (paysReq (classOf t)) || ltb (resPlane (getD m 0 0)) (r .planes)) ≡ false → PaymentFault r m 0 (1 + resPlane (getD m 0 0))
   plane-fault e =
       let w = guard-fails (paysReq (classOf t)) (ltb (resPlane (getD m 0 0)) (r .planes)) e in
-      PaymentCells.plane (req-so (classOf t) (w .0)) (ltb-false (resPlane (getD m 0 0)) (r .planes) (w .1))
+      PaymentFault.bad-plane (subst T (pays-types t .0) (w .0)) (ltb-false (resPlane (getD m 0 0)) (r .planes) (w .1))
 
-  data-fault : (not (paysData (classOf t)) || (sharedCrdt (getD m 0 0) || hasPool r 12)) ≡ false → PaymentCells r m 1 12
+  data-fault : (not (paysData (classOf t)) || (sharedCrdt (getD m 0 0) || hasPool r 12)) ≡ false → PaymentFault r m 1 12
   data-fault e =
       let w = guard-fails (paysData (classOf t)) (sharedCrdt (getD m 0 0) || hasPool r 12) e in
       let v = or-fails (sharedCrdt (getD m 0 0)) (hasPool r 12) (w .1) in
-      dedicated (data-so (classOf t) (w .0)) (v .0) (v .1)
+      dedicated (subst T (pays-types t .1) (w .0)) (eqb-false (getD m 0 0 / 16 % 2) 1 (v .0)) (v .1)
 
-  push-fault : (not (paysPush (classOf t)) || (r .push && (eqb (getD m 1 0 % 2) 1 || hasPool r 13))) ≡ false → PaymentCells r m 2 13
-  push-fault e = push (push-so (classOf t) (w .0)) (⊎-elim (λ a. inl a) missing (and-fails (r .push) (eqb (getD m 1 0 % 2) 1 || hasPool r 13) (w .1)))
+  push-fault : (not (paysPush (classOf t)) || (r .push && (eqb (getD m 1 0 % 2) 1 || hasPool r 13))) ≡ false → PaymentFault r m 2 13
+  push-fault e = push (subst T (pays-types t .2) (w .0)) (⊎-elim (λ a. inl a) missing (and-fails (r .push) (eqb (getD m 1 0 % 2) 1 || hasPool r 13) (w .1)))
     where
       w : T (paysPush (classOf t)) × ((r .push && (eqb (getD m 1 0 % 2) 1 || hasPool r 13)) ≡ false)
       w = guard-fails (paysPush (classOf t)) (r .push && (eqb (getD m 1 0 % 2) 1 || hasPool r 13)) e
@@ -122,20 +126,18 @@ module _ (r : Receiver) (m : List ℕ) where
           let v = or-fails (eqb (getD m 1 0 % 2) 1) (hasPool r 13) f in
           ⊎-elim (λ a. inl a) (λ b. inr (eqb-false (getD m 1 0 % 2) 1 (v .0), leb-false 2 (r .planes) b)) (and-fails (r .push) (leb 2 (r .planes)) (v .1))
 
-  payment-sounds : (R : ℕ → Cause → ℕ → Type 0) (n : ℕ) → ((u p : ℕ) → PaymentCells r m u p → R (n + u) MissingPool p) → Sounds R (paymentSites n)
+  payment-sounds : (R : ℕ → Cause → ℕ → Type 0) (n : ℕ) → ((u p : ℕ) → PaymentFault r m u p → R (n + u) MissingPool p) → Sounds R (paymentSites n)
   payment-sounds R n h = (λ e. h 0 _ (plane-fault e), (λ e. h 1 _ (data-fault e), (λ e. h 2 _ (push-fault e), tt)))
 
-  payment-fails : (n u p : ℕ) → PaymentCells r m u p → Fails (n + u) MissingPool p (paymentSites n)
-  payment-fails n u p (PaymentCells.plane k l) = inl (refl, fails-as _ _ _ (fail-guard (paysReq (classOf t)) _ (pays k) (le-ltb (resPlane (getD m 0 0)) (r .planes) l)))
-    where
-      pays : (classOf t ≡ Request) ⊎ (classOf t ≡ RequestData) → T (paysReq (classOf t))
-      pays (inl e) = rw e tt
-      pays (inr e) = rw e tt
-  payment-fails n u p (dedicated k s h) = inr (inl (refl, fails-as _ _ _ (fail-guard (paysData (classOf t)) _ (rw k tt) (none (sharedCrdt (getD m 0 0)) (r .push) s h))))
+  payment-fails : (n u p : ℕ) → PaymentFault r m u p → Fails (n + u) MissingPool p (paymentSites n)
+  payment-fails n u p (PaymentFault.bad-plane k l) =
+      inl (refl, fails-as _ _ _ (fail-guard (paysReq (classOf t)) _ (subst T (sym (pays-types t .0)) k) (le-ltb (resPlane (getD m 0 0)) (r .planes) l)))
+  payment-fails n u p (dedicated k s h) =
+      inr (inl (refl, fails-as _ _ _ (fail-guard (paysData (classOf t)) _ (subst T (sym (pays-types t .1)) k) (none (sharedCrdt (getD m 0 0)) (r .push) (ne-eqb (getD m 0 0 / 16 % 2) 1 s) h))))
     where
       none : (a b : Bool) → a ≡ false → b ≡ false → (a || b) ≡ false
       none a b e f = rw (e, f)
-  payment-fails n u p (push k h) = inr (inr (inl (refl, fails-as _ _ _ (fail-guard (paysPush (classOf t)) _ (rw k tt) (missing h)))))
+  payment-fails n u p (push k h) = inr (inr (inl (refl, fails-as _ _ _ (fail-guard (paysPush (classOf t)) _ (subst T (sym (pays-types t .2)) k) (missing h)))))
     where
       missing : (r .push ≡ false) ⊎ ((getD m 1 0 % 2 ≡ 1 → ⊥) × (r .planes < 2)) → (r .push && (eqb (getD m 1 0 % 2) 1 || (r .push && leb 2 (r .planes)))) ≡ false
       missing (inl e) = rw e
@@ -156,10 +158,10 @@ module _ (r : Receiver) (n : Grant) where
   grant-rises : (b : ℕ) → Rises b (grantSites b) (b + 2)
   grant-rises b = (omega arith, (omega arith, omega arith))
 
-  grant-plane : (n .shc || ltb (n .rp) (r .planes)) ≡ false → GrantCells r n 0 (1 + n .rp)
-  grant-plane e = let w = or-fails (n .shc) (ltb (n .rp) (r .planes)) e in GrantCells.plane (w .0) (ltb-false (n .rp) (r .planes) (w .1))
+  grant-plane : (n .shc || ltb (n .rp) (r .planes)) ≡ false → GrantFault r n 0 (1 + n .rp)
+  grant-plane e = let w = or-fails (n .shc) (ltb (n .rp) (r .planes)) e in GrantFault.bad-plane (w .0) (ltb-false (n .rp) (r .planes) (w .1))
 
-  grant-dat : (n .shc || (eqb (n .dat) 0 || (r .push && ltb (n .rp) 2))) ≡ false → GrantCells r n 1 (pick (eqb (n .rp) 0) 12 13)
+  grant-dat : (n .shc || (eqb (n .dat) 0 || (r .push && ltb (n .rp) 2))) ≡ false → GrantFault r n 1 (pick (eqb (n .rp) 0) 12 13)
   grant-dat e = ⊎-elim zeroth later (cases (eqb (n .rp) 0))
     where
       w : (n .shc ≡ false) × ((eqb (n .dat) 0 || (r .push && ltb (n .rp) 2)) ≡ false)
@@ -168,24 +170,24 @@ module _ (r : Receiver) (n : Grant) where
       v : (eqb (n .dat) 0 ≡ false) × ((r .push && ltb (n .rp) 2) ≡ false)
       v = or-fails (eqb (n .dat) 0) (r .push && ltb (n .rp) 2) (w .1)
 
-      zeroth : eqb (n .rp) 0 ≡ true → GrantCells r n 1 (pick (eqb (n .rp) 0) 12 13)
+      zeroth : eqb (n .rp) 0 ≡ true → GrantFault r n 1 (pick (eqb (n .rp) 0) 12 13)
       zeroth z =
           let o = eqb-true (n .rp) 0 z in
-          rw z (first (w .0) (not-zero (n .dat) (v .0)) o (⊎-elim (λ a. a) (λ b. let l = ltb-false (n .rp) 2 b in absurd (omega arith)) (and-fails (r .push) (ltb (n .rp) 2) (v .1))))
+          rw z (dat0 (w .0) (not-zero (n .dat) (v .0)) o (⊎-elim (λ a. a) (λ b. let l = ltb-false (n .rp) 2 b in absurd (omega arith)) (and-fails (r .push) (ltb (n .rp) 2) (v .1))))
 
-      later : eqb (n .rp) 0 ≡ false → GrantCells r n 1 (pick (eqb (n .rp) 0) 12 13)
-      later z = rw z (other (w .0) (not-zero (n .dat) (v .0)) (not-zero (n .rp) z) (⊎-elim (λ a. inl a) (λ b. inr (ltb-false (n .rp) 2 b)) (and-fails (r .push) (ltb (n .rp) 2) (v .1))))
+      later : eqb (n .rp) 0 ≡ false → GrantFault r n 1 (pick (eqb (n .rp) 0) 12 13)
+      later z = rw z (dat1 (w .0) (not-zero (n .dat) (v .0)) (not-zero (n .rp) z) (⊎-elim (λ a. inl a) (λ b. inr (ltb-false (n .rp) 2 b)) (and-fails (r .push) (ltb (n .rp) 2) (v .1))))
 
-  grant-sounds : (R : ℕ → Cause → ℕ → Type 0) (b : ℕ) → ((u p : ℕ) → GrantCells r n u p → R (b + u) MissingPool p) → Sounds R (grantSites b)
+  grant-sounds : (R : ℕ → Cause → ℕ → Type 0) (b : ℕ) → ((u p : ℕ) → GrantFault r n u p → R (b + u) MissingPool p) → Sounds R (grantSites b)
   grant-sounds R b h = (λ e. h 0 _ (grant-plane e), (λ e. h 1 _ (grant-dat e), tt))
 
-  grant-fails : (b u p : ℕ) → GrantCells r n u p → Fails (b + u) MissingPool p (grantSites b)
-  grant-fails b u p (GrantCells.plane s l) = inl (refl, fails-as _ _ _ (rw (s, le-ltb (n .rp) (r .planes) l)))
-  grant-fails b u p (first s d o h) = inr (inl (refl, at))
+  grant-fails : (b u p : ℕ) → GrantFault r n u p → Fails (b + u) MissingPool p (grantSites b)
+  grant-fails b u p (GrantFault.bad-plane s l) = inl (refl, fails-as _ _ _ (rw (s, le-ltb (n .rp) (r .planes) l)))
+  grant-fails b u p (dat0 s d o h) = inr (inl (refl, at))
     where
       at : check (n .shc || (eqb (n .dat) 0 || (r .push && ltb (n .rp) 2))) MissingPool (pick (eqb (n .rp) 0) 12 13) ≡ check false MissingPool 12
       at = rw (s, zero-not (n .dat) d, h, eq-eqb (n .rp) 0 o)
-  grant-fails b u p (other s d o h) = inr (inl (refl, at h))
+  grant-fails b u p (dat1 s d o h) = inr (inl (refl, at h))
     where
       at : (r .push ≡ false) ⊎ (2 ≤ n .rp) → check (n .shc || (eqb (n .dat) 0 || (r .push && ltb (n .rp) 2))) MissingPool (pick (eqb (n .rp) 0) 12 13) ≡ check false MissingPool 13
       at (inl h) = rw (s, zero-not (n .dat) d, h, zero-not (n .rp) o)
@@ -215,7 +217,7 @@ module _ (r : Receiver) (f : ℕ → Cell) where
       (only-rises (paymentSites r (f g .bytes) (500 + 3 * g)) (f g .starts) (500 + 3 * g) (500 + 3 * g + 3) (omega arith) (payment-rises r (f g .bytes) (500 + 3 * g)))
       (rises-from (500 + 3 * g + 3) (500 + 3 * (g + 1)) (messageSites k (g + 1)) (500 + 3 * (g + suc k)) (omega arith) (rw e (messages-rise k (g + 1))))
 
-  messages-sound : (R : ℕ → Cause → ℕ → Type 0) → ((g u p : ℕ) → g < 12 → T (f g .starts) → PaymentCells r (f g .bytes) u p → R (500 + 3 * g + u) MissingPool p)
+  messages-sound : (R : ℕ → Cause → ℕ → Type 0) → ((g u p : ℕ) → g < 12 → T (f g .starts) → PaymentFault r (f g .bytes) u p → R (500 + 3 * g + u) MissingPool p)
       → (k g : ℕ) → g + k ≤ 12 → Sounds R (messageSites k g)
   unfolding messageSites
   messages-sound R h zero g b = tt
@@ -224,12 +226,12 @@ module _ (r : Receiver) (f : ℕ → Cell) where
       (only-sounds (paymentSites r (f g .bytes) (500 + 3 * g)) R (f g .starts) (λ s. payment-sounds r (f g .bytes) R (500 + 3 * g) (λ u p w. h g u p (omega arith) s w)))
       (messages-sound R h k (g + 1) (omega arith))
 
-  message-fails : (k g j u p : ℕ) → g ≤ j → j < g + k → T (f j .starts) → PaymentCells r (f j .bytes) u p → Fails (500 + 3 * j + u) MissingPool p (messageSites k g)
+  message-fails : (k g j u p : ℕ) → g ≤ j → j < g + k → T (f j .starts) → PaymentFault r (f j .bytes) u p → Fails (500 + 3 * j + u) MissingPool p (messageSites k g)
   unfolding messageSites
   message-fails zero g j u p a b s h = absurd (omega arith)
   message-fails (suc k) g j u p a b s h = ⊎-elim here (λ (e : eqb j g ≡ false). let d = eqb-false j g e in fails-back (500 + 3 * j + u) MissingPool p (pick (f g .starts) (paymentSites r (f g .bytes) (500 + 3 * g)) []) (messageSites k (g + 1)) (message-fails k (g + 1) j u p (omega arith) (omega arith) s h)) (cases (eqb j g))
     where
-      at : (i : ℕ) → T (f i .starts) → PaymentCells r (f i .bytes) u p → Fails (500 + 3 * i + u) MissingPool p (pick (f i .starts) (paymentSites r (f i .bytes) (500 + 3 * i)) [])
+      at : (i : ℕ) → T (f i .starts) → PaymentFault r (f i .bytes) u p → Fails (500 + 3 * i + u) MissingPool p (pick (f i .starts) (paymentSites r (f i .bytes) (500 + 3 * i)) [])
       at i s h = only-fails (paymentSites r (f i .bytes) (500 + 3 * i)) (f i .starts) (500 + 3 * i + u) MissingPool p s (payment-fails r (f i .bytes) (500 + 3 * i) u p h)
 
       here : eqb j g ≡ true → Fails (500 + 3 * j + u) MissingPool p (pick (f g .starts) (paymentSites r (f g .bytes) (500 + 3 * g)) [] ++ messageSites k (g + 1))
@@ -242,7 +244,7 @@ module _ (r : Receiver) (f : ℕ → Cell) where
   grants g = f g .starts && isMisc (f g .bytes) crdtGrant
 
   abbrev grantAt : ℕ → List Site
-  grantAt g = grantSites r (grantOfForm (f g .bytes)) (550 + 2 * g)
+  grantAt g = grantSites r (grantIn (f g .bytes)) (550 + 2 * g)
 
   unfoldable crdtSites : ℕ → ℕ → List Site
   crdtSites zero g = []
@@ -254,7 +256,7 @@ module _ (r : Receiver) (f : ℕ → Cell) where
   crdt-tests (suc k) g =
       ⊎-elim
       (λ (e : f g .starts ≡ true).
-      ⊎-elim (λ (i : isMisc (f g .bytes) crdtGrant ≡ true). rw (e, i) (ap (λ (l : List Check). grantChecks r (grantOfForm (f g .bytes)) ++ l) (crdt-tests k (g + 1))))
+      ⊎-elim (λ (i : isMisc (f g .bytes) crdtGrant ≡ true). rw (e, i) (ap (λ (l : List Check). grantChecks r (grantIn (f g .bytes)) ++ l) (crdt-tests k (g + 1))))
       (λ (i : isMisc (f g .bytes) crdtGrant ≡ false). rw (e, i) (crdt-tests k (g + 1)))
       (cases (isMisc (f g .bytes) crdtGrant)))
       (λ (e : f g .starts ≡ false). rw e (crdt-tests k (g + 1)))
@@ -266,19 +268,19 @@ module _ (r : Receiver) (f : ℕ → Cell) where
   crdts-rise (suc k) g =
       let e : g + suc k ≡ g + 1 + k = omega arith in
       rises-append (550 + 2 * g) (pick (grants g) (grantAt g) []) (550 + 2 * g + 2) (crdtSites k (g + 1)) (550 + 2 * (g + suc k))
-      (only-rises (grantAt g) (grants g) (550 + 2 * g) (550 + 2 * g + 2) (omega arith) (grant-rises r (grantOfForm (f g .bytes)) (550 + 2 * g)))
+      (only-rises (grantAt g) (grants g) (550 + 2 * g) (550 + 2 * g + 2) (omega arith) (grant-rises r (grantIn (f g .bytes)) (550 + 2 * g)))
       (rises-from (550 + 2 * g + 2) (550 + 2 * (g + 1)) (crdtSites k (g + 1)) (550 + 2 * (g + suc k)) (omega arith) (rw e (crdts-rise k (g + 1))))
 
-  crdts-sound : (R : ℕ → Cause → ℕ → Type 0) → ((g u p : ℕ) → g < 12 → T (grants g) → GrantCells r (grantOfForm (f g .bytes)) u p → R (550 + 2 * g + u) MissingPool p)
+  crdts-sound : (R : ℕ → Cause → ℕ → Type 0) → ((g u p : ℕ) → g < 12 → T (grants g) → GrantFault r (grantIn (f g .bytes)) u p → R (550 + 2 * g + u) MissingPool p)
       → (k g : ℕ) → g + k ≤ 12 → Sounds R (crdtSites k g)
   unfolding crdtSites
   crdts-sound R h zero g b = tt
   crdts-sound R h (suc k) g b =
       sounds-append R (pick (grants g) (grantAt g) []) (crdtSites k (g + 1))
-      (only-sounds (grantAt g) R (grants g) (λ s. grant-sounds r (grantOfForm (f g .bytes)) R (550 + 2 * g) (λ u p w. h g u p (omega arith) s w)))
+      (only-sounds (grantAt g) R (grants g) (λ s. grant-sounds r (grantIn (f g .bytes)) R (550 + 2 * g) (λ u p w. h g u p (omega arith) s w)))
       (crdts-sound R h k (g + 1) (omega arith))
 
-  crdt-fails : (k g j u p : ℕ) → g ≤ j → j < g + k → T (grants j) → GrantCells r (grantOfForm (f j .bytes)) u p → Fails (550 + 2 * j + u) MissingPool p (crdtSites k g)
+  crdt-fails : (k g j u p : ℕ) → g ≤ j → j < g + k → T (grants j) → GrantFault r (grantIn (f j .bytes)) u p → Fails (550 + 2 * j + u) MissingPool p (crdtSites k g)
   unfolding crdtSites
   crdt-fails zero g j u p a b s h = absurd (omega arith)
   crdt-fails (suc k) g j u p a b s h = ⊎-elim here (λ (e : eqb j g ≡ false). let d = eqb-false j g e in fails-back (550 + 2 * j + u) MissingPool p (pick (grants g) (grantAt g) []) (crdtSites k (g + 1)) (crdt-fails k (g + 1) j u p (omega arith) (omega arith) s h)) (cases (eqb j g))
@@ -287,7 +289,7 @@ module _ (r : Receiver) (f : ℕ → Cell) where
       here e =
           fails-front (550 + 2 * j + u) MissingPool p (pick (grants g) (grantAt g) []) (crdtSites k (g + 1))
           (subst (λ (i : ℕ). Fails (550 + 2 * j + u) MissingPool p (pick (grants i) (grantAt i) [])) (eqb-true j g e)
-          (only-fails (grantAt j) (grants j) (550 + 2 * j + u) MissingPool p s (grant-fails r (grantOfForm (f j .bytes)) (550 + 2 * j) u p h)))
+          (only-fails (grantAt j) (grants j) (550 + 2 * j + u) MissingPool p s (grant-fails r (grantIn (f j .bytes)) (550 + 2 * j) u p h)))
 
 -- ---- 15 and 16, by pools
 module _ (s : Ledger) (d : ℕ) where
@@ -315,7 +317,7 @@ module _ (s : Ledger) (d : ℕ) where
 
   module _ (ns : List Grant) where
     abbrev room : ℕ → ℕ
-    room p = getD (receiverOf s d .capacities) p 0
+    room p = capacityOf (receiverOf s d) p
 
     abbrev needed : ℕ → ℕ
     needed p = heldOf s d p + (grantedTo p ns + openOf s d p)

@@ -1,5 +1,5 @@
 -- The faults of the checks as they stand, over cells and by cause: from the checks to the table of Faults.
-use Prim.Native.Nat.{ℕ, _+_, _*_, _%_, _≤_, _<_}
+use Prim.Native.Nat.{ℕ, _+_, _*_, _≤_, _<_}
 use mathlib.Core.Path.{_≡_}
 use mathlib.Core.Bool.{true, false}
 use mathlib.Core.List.{List, _++_}
@@ -10,11 +10,9 @@ use Rattle.cause.specs.Causes.{causeNumber}
 use Rattle.cause.specs.declared.Cause.{Cause}
 use Rattle.cause.specs.declared.Cause.the-variants.{ContainerLength, RoomTooSmall, ReservedBitSet, HeaderGrantForm, StartInsideMessage, UnknownMessage, PlaceNotAllowed, HeadWrong, UnusedByteNotZero, GapInGroup, SecondMisc, TooManyResponses, GrantBesideActivation, MissingPool, BegunOverGranted, GrantedOverCapacity, BrokenRecord, TooLong, InvalidState}
 use Rattle.container.specs.Layout.{Format, formatOf, header}
-use Rattle.container.specs.Grants.{headerGrant, grantOf}
+use Rattle.container.specs.Grants.{headerGrant}
 use Rattle.container.specs.declared.grant.Grant.{Grant}
-use Rattle.message.specs.Heads.{typeOf, opOf, classOf, msgSize, wellHeaded, isMessage, miscU, activation, crdtGrant}
-use Rattle.message.specs.declared.heads.Class.the-variants.{Request, Data, RequestData}
-use Rattle.message.specs.Charges.{resPlane, sharedCrdt}
+use Rattle.message.specs.Heads.{typeOf, opOf, msgSize, wellHeaded, isMessage, miscU, activation, crdtGrant}
 use Rattle.message.specs.Places.{placed, responses}
 use Rattle.record.specs.Records.{recordOf, recordsOf, AllMessages}
 use Rattle.reader.specs.Cells.{Cell}
@@ -22,12 +20,13 @@ use Rattle.reader.specs.Checking.{used, starting}
 use Rattle.reader.specs.Keeps.{cellOf}
 use Rattle.reader.specs.Reading.{readerOk, carried}
 use Rattle.reader.specs.declared.reader.Reader.{Reader}
+use Rattle.ledger.specs.PoolRules.{grantIn, capacityOf}
 use Rattle.ledger.specs.Pools.{paidTo, grantedTo}
 use Rattle.ledger.specs.Audit.{receiverOf, readerOf, heldOf, openOf, ledgerOk, opposite, begun, granted}
-use Rattle.ledger.specs.declared.receiver.Receiver.{Receiver}
 use Rattle.ledger.specs.declared.ledger.Ledger.{Ledger}
 use Rattle.writer.specs.Filling.{writerOk}
 use Rattle.writer.specs.declared.writer.Writer.{Writer}
+use Rattle.demands.specs.Faults.{PaymentFault, GrantFault}
 use Rattle.demands.specs.Order.{rank}
 
 -- the rank of a cause
@@ -47,10 +46,6 @@ StartsActivation e = T (e .starts) × (typeOf (e .bytes) ≡ miscU) × (opOf (e 
 -- the responses that start there
 abbrev pub started : Cell → ℕ
 started e = starting responses e
-
--- the grant form of a CrdtGrant
-abbrev pub grantOfForm : List ℕ → Grant
-grantOfForm m = grantOf (getD m 2 0) (getD m 3 0) (getD m 4 0) (getD m 5 0) (getD m 6 0)
 
 -- 3 to 13
 pub data CellFault (fm : Format) (m c : List ℕ) : Cause → ℕ → Type 0 where
@@ -78,18 +73,6 @@ pub data ReadCells (s : Reader) (c : List ℕ) (room : ℕ) : Cause → ℕ → 
   small : room < 352 → ReadCells s c room RoomTooSmall 0
   container : {k : Cause} {p : ℕ} → CellFault (formatOf (s .format)) (carried s) c k p → ReadCells s c room k p
 
--- 14 of a message to a receiver, by turn and pool
-pub data PaymentCells (r : Receiver) (m : List ℕ) : ℕ → ℕ → Type 0 where
-  plane : (classOf (typeOf m) ≡ Request) ⊎ (classOf (typeOf m) ≡ RequestData) → r .planes ≤ resPlane (getD m 0 0) → PaymentCells r m 0 (1 + resPlane (getD m 0 0))
-  dedicated : classOf (typeOf m) ≡ Data → sharedCrdt (getD m 0 0) ≡ false → r .push ≡ false → PaymentCells r m 1 12
-  push : classOf (typeOf m) ≡ RequestData → (r .push ≡ false) ⊎ ((getD m 1 0 % 2 ≡ 1 → ⊥) × (r .planes < 2)) → PaymentCells r m 2 13
-
--- 14 of a grant to a receiver, by turn and pool
-pub data GrantCells (r : Receiver) (n : Grant) : ℕ → ℕ → Type 0 where
-  plane : n .shc ≡ false → r .planes ≤ n .rp → GrantCells r n 0 (1 + n .rp)
-  first : n .shc ≡ false → 0 < n .dat → n .rp ≡ 0 → r .push ≡ false → GrantCells r n 1 12
-  other : n .shc ≡ false → 0 < n .dat → 0 < n .rp → (r .push ≡ false) ⊎ (2 ≤ n .rp) → GrantCells r n 1 13
-
 -- granule g of an entry, as it is read
 abbrev pub entryCell : Ledger → ℕ → List ℕ → ℕ → Cell
 entryCell s d c g = cellOf (formatOf (s .format)) c (carried (readerOf s d)) g
@@ -99,13 +82,13 @@ pub data AuditCells (s : Ledger) (d : ℕ) (c : List ℕ) : Cause → ℕ → �
   invalid : (2 ≤ d) ⊎ (ledgerOk s ≡ false) → AuditCells s d c InvalidState 0 0
   size : (length c ≡ 256 → ⊥) → AuditCells s d c ContainerLength 0 0
   container : {k : Cause} {p : ℕ} → CellFault (formatOf (s .format)) (carried (readerOf s d)) c k p → AuditCells s d c k p p
-  message : (g t p : ℕ) → g < 12 → T (entryCell s d c g .starts) → PaymentCells (receiverOf s d) (entryCell s d c g .bytes) t p
+  message : (g t p : ℕ) → g < 12 → T (entryCell s d c g .starts) → PaymentFault (receiverOf s d) (entryCell s d c g .bytes) t p
       → AuditCells s d c MissingPool (3 * g + t) p
-  heading : (t p : ℕ) → GrantCells (receiverOf s (opposite d)) (headerGrant (formatOf (s .format)) c) t p → AuditCells s d c MissingPool (40 + t) p
+  heading : (t p : ℕ) → GrantFault (receiverOf s (opposite d)) (headerGrant (formatOf (s .format)) c) t p → AuditCells s d c MissingPool (40 + t) p
   granting : (g t p : ℕ) → g < 12 → T (entryCell s d c g .starts) → typeOf (entryCell s d c g .bytes) ≡ miscU → opOf (entryCell s d c g .bytes) ≡ crdtGrant
-      → GrantCells (receiverOf s (opposite d)) (grantOfForm (entryCell s d c g .bytes)) t p → AuditCells s d c MissingPool (50 + 2 * g + t) p
+      → GrantFault (receiverOf s (opposite d)) (grantIn (entryCell s d c g .bytes)) t p → AuditCells s d c MissingPool (50 + 2 * g + t) p
   over : (p : ℕ) → p < 14 → heldOf s d p < paidTo p (begun s d c) → AuditCells s d c BegunOverGranted p p
-  full : (p : ℕ) → p < 14 → getD (receiverOf s (opposite d) .capacities) p 0 < heldOf s (opposite d) p + (grantedTo p (granted s d c) + openOf s (opposite d) p)
+  full : (p : ℕ) → p < 14 → capacityOf (receiverOf s (opposite d)) p < heldOf s (opposite d) p + (grantedTo p (granted s d c) + openOf s (opposite d) p)
       → AuditCells s d c GrantedOverCapacity p p
 
 -- the check of a list

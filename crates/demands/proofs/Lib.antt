@@ -4,6 +4,7 @@ pub mod ReadFaults
 pub mod AuditFaults
 pub mod FillFaults
 pub mod NamedLaws
+pub mod ContainerTable
 pub mod Refusals
 pub mod Packing
 pub mod TapLaws

@@ -1,4 +1,5 @@
 pub mod Order
+pub mod Faults
 pub mod Demand1
 pub mod Demand2
 pub mod Tap

@@ -7,3 +7,5 @@ pub mod Log
 pub mod Stream
 pub mod Cutting
 pub mod Calls
+pub mod PoolRules
+pub mod ValidLedger
