@@ -1,6 +1,6 @@
 -- The faults of a container over its cells are those of the table, wherever nothing comes before them. Assumes nothing.
 use Prim.Native.Nat.{ℕ, _+_, _*_, _/_, _%_, _≤_, _<_}
-use mathlib.Core.Path.{_≡_, refl, sym, ap, subst}
+use mathlib.Core.Path.{_≡_, refl, sym, subst}
 use mathlib.Core.Bool.{true, false}
 use mathlib.Core.List.{List}
 use mathlib.Core.Logic.{inl, inr, ⊎-elim, _↔_}
@@ -8,11 +8,11 @@ use native.Mathlib.Omega.{arith}
 use lib.ListN.{length, getD}
 use lib.Dec.{T, eqb, ltb}
 use borrow.Author.Tests.{eq-eqb, eqb-true, ltb-true, ltb-false}
-use Rattle.lists.proofs.Tests.{cases, true-T, never-both, not-true-false}
+use Rattle.lists.proofs.Tests.{cases, T-true, true-T, never-both, not-true-false}
 use Rattle.cause.specs.Causes.{causeNumber}
 use Rattle.cause.specs.declared.Cause.{Cause}
 use Rattle.cause.specs.declared.Cause.the-variants.{ReservedBitSet, HeaderGrantForm, StartInsideMessage, UnknownMessage, PlaceNotAllowed, HeadWrong, UnusedByteNotZero, GapInGroup, SecondMisc, TooManyResponses, GrantBesideActivation}
-use Rattle.container.specs.Layout.{Format, granule, header}
+use Rattle.container.specs.Layout.{Format, granule, header, msgStart, bit}
 use Rattle.container.specs.Lawful.{Lawful}
 use Rattle.message.specs.Heads.{msgSize, wellHeaded}
 use Rattle.message.specs.HeadRules.{Bytes}
@@ -22,16 +22,25 @@ use Rattle.message.proofs.PlaceRuleLaws.{place-exactly}
 use Rattle.reader.specs.Cells.{Cell}
 use Rattle.reader.specs.Keeps.{progress, cellOf, KeepsGranule}
 use Rattle.reader.specs.Reading.{carryOk}
-use Rattle.reader.specs.Rules.{Starts, Origin, GoesOn, Populated, Unused}
+use Rattle.reader.specs.Rules.{startBit, Starts, Origin, GoesOn, Populated}
 use Rattle.reader.proofs.OccupyLaws.{Follow, follow-to, goes-exactly}
-use Rattle.reader.proofs.RulesLaws.{starts-to, starts-of, unused-behind, behind-unused}
+use Rattle.reader.proofs.RulesLaws.{unused-behind, behind-unused}
 use Rattle.demands.specs.Faults.{ContainerFault}
 use Rattle.demands.specs.Order.{rank}
 use Rattle.demands.proofs.CellFaults.{turnOf, Filled, StartsMisc, CellFault}
 use Rattle.demands.proofs.ContainerFaults.{not-zero}
 
--- no fault of a container comes before rank 4
 module _ (fm : Format) (m c : List ℕ) where
+  -- a cell starts exactly where its bit is set
+  pub starts-in : (g : ℕ) → T (cellOf fm c m g .starts) → Starts fm c g
+  unfolding cellOf
+  starts-in g t = eqb-true (startBit fm c g) 1 (T-true (bit (msgStart fm c) g) t)
+
+  pub starts-cell : (g : ℕ) → Starts fm c g → T (cellOf fm c m g .starts)
+  unfolding cellOf
+  starts-cell g s = true-T (bit (msgStart fm c) g) (eq-eqb (startBit fm c g) 1 s)
+
+  -- no fault of a container comes before rank 4
   pub cells-late : (k : Cause) (p : ℕ) → CellFault fm m c k p → 4 ≤ turnOf k p
   cells-late k p (CellFault.reserved h) = omega arith
   cells-late k p (CellFault.form s h) = omega arith
@@ -66,15 +75,6 @@ module _ (fm : Format) (law : Lawful fm) (m c : List ℕ) (n256 : length c ≡ 2
   abbrev pub Before : ℕ → Type 0
   Before r = (k : Cause) (p : ℕ) → CellFault fm m c k p → turnOf k p < r → ⊥
 
-  -- ---- cells and granules
-  starts-in : (g : ℕ) → T (cell g .starts) → Starts fm c g
-  unfolding cellOf
-  starts-in g t = starts-of fm law m c n256 valid g t
-
-  starts-cell : (g : ℕ) → Starts fm c g → T (cell g .starts)
-  unfolding cellOf
-  starts-cell g s = starts-to fm law m c n256 valid g s
-
   -- the granules whose faults all come before r keep the rules
   module _ (r : ℕ) (none : Before r) where
     known-at : (g : ℕ) → g < 12 → 106 + 10 * g < r → T (cell g .starts) → 0 < msgSize (cell g .bytes)
@@ -100,10 +100,10 @@ module _ (fm : Format) (law : Lawful fm) (m c : List ℕ) (n256 : length c ≡ 2
     follow-at g b l = follow-to fm law m c n256 valid g (omega arith) (λ h k. keeps-at h (omega arith) (omega arith))
 
     filled-of : (g : ℕ) → g < 12 → 100 + 10 * g ≤ r → Filled (cell g) → Populated fm m c g
-    filled-of g b l h = ⊎-elim (λ (t : T (cell g .goesOn)). inr (goes-at g b l .0 t)) (λ (t : T (cell g .starts)). inl (starts-in g t)) h
+    filled-of g b l h = ⊎-elim (λ (t : T (cell g .goesOn)). inr (goes-at g b l .0 t)) (λ (t : T (cell g .starts)). inl (starts-in fm m c g t)) h
 
     filled-to : (g : ℕ) → g < 12 → 100 + 10 * g ≤ r → Populated fm m c g → Filled (cell g)
-    filled-to g b l h = ⊎-elim (λ (s : Starts fm c g). inr (starts-cell g s)) (λ v. inl (goes-at g b l .1 v)) h
+    filled-to g b l h = ⊎-elim (λ (s : Starts fm c g). inr (starts-cell fm m c g s)) (λ v. inl (goes-at g b l .1 v)) h
 
     -- a message that starts where nothing comes before its kind is one of the table
     bytes-at : (g : ℕ) → g < 12 → 106 + 10 * g < r → T (cell g .starts) → Bytes (granule fm g c) (msgSize (granule fm g c))
@@ -128,14 +128,14 @@ module _ (fm : Format) (law : Lawful fm) (m c : List ℕ) (n256 : length c ≡ 2
   row-of k p (CellFault.reserved h) none = ContainerFault.reserved h
   row-of k p (CellFault.form s h) none = ContainerFault.form (eqb-true (header fm c 2 % 2) 1 s) h
   row-of k p (CellFault.inside g b t s) none =
-      let v = goes-at (turnOf StartInsideMessage g) none g b (omega arith) .0 t in ContainerFault.inside g (v .0) (v .1) b (starts-in g s) (v .2)
-  row-of k p (CellFault.unknown g b s e) none = ContainerFault.unknown g b (starts-in g s) (unknown-to g e)
+      let v = goes-at (turnOf StartInsideMessage g) none g b (omega arith) .0 t in ContainerFault.inside g (v .0) (v .1) b (starts-in fm m c g s) (v .2)
+  row-of k p (CellFault.unknown g b s e) none = ContainerFault.unknown g b (starts-in fm m c g s) (unknown-to g e)
   row-of k p (CellFault.place g b s e) none =
       let r = bytes-at (turnOf PlaceNotAllowed g) none g b (omega arith) s in
-      ContainerFault.place g b (starts-in g s) (λ h. never-both e (place-exactly fm law g b (granule fm g c) (msgSize (granule fm g c)) r .1 h))
+      ContainerFault.place g b (starts-in fm m c g s) (λ h. never-both e (place-exactly fm law g b (granule fm g c) (msgSize (granule fm g c)) r .1 h))
   row-of k p (CellFault.head g b s e) none =
       let r = bytes-at (turnOf HeadWrong g) none g b (omega arith) s in
-      ContainerFault.head g b (starts-in g s) (λ h. never-both e (head-exactly (granule fm g c) (msgSize (granule fm g c)) r .1 h))
+      ContainerFault.head g b (starts-in fm m c g s) (λ h. never-both e (head-exactly (granule fm g c) (msgSize (granule fm g c)) r .1 h))
   row-of k p (CellFault.unused g i b l h) none =
       let f = follow-at (turnOf UnusedByteNotZero g) none g b (omega arith) in
       ContainerFault.unused g i b
@@ -144,9 +144,9 @@ module _ (fm : Format) (law : Lawful fm) (m c : List ℕ) (n256 : length c ≡ 2
       ContainerFault.gap q (3 * q + i) (3 * q + j) b (omega arith) (omega arith) (omega arith)
       (λ h. x (filled-to (turnOf GapInGroup q) none (3 * q + i) (omega arith) (omega arith) h)) (filled-of (turnOf GapInGroup q) none (3 * q + j) (omega arith) (omega arith) y)
   row-of k p (CellFault.second q i j b l u x y) none =
-      ContainerFault.second q (3 * q + i) (3 * q + j) b (omega arith) (omega arith) (omega arith) (starts-in (3 * q + i) (x .0)) (x .1) (starts-in (3 * q + j) (y .0)) (y .1)
+      ContainerFault.second q (3 * q + i) (3 * q + j) b (omega arith) (omega arith) (omega arith) (starts-in fm m c (3 * q + i) (x .0)) (x .1) (starts-in fm m c (3 * q + j) (y .0)) (y .1)
   row-of k p (CellFault.many q b h) none = ContainerFault.many q b h
-  row-of k p (CellFault.beside g b a h) none = ContainerFault.beside g b (starts-in g (a .0)) (a .1, a .2) h
+  row-of k p (CellFault.beside g b a h) none = ContainerFault.beside g b (starts-in fm m c g (a .0)) (a .1, a .2) h
 
   -- ---- back
   -- granule g of group q, by its place in the group
@@ -158,14 +158,14 @@ module _ (fm : Format) (law : Lawful fm) (m c : List ℕ) (n256 : length c ≡ 2
   unfolding cellOf
   of-row j q (ContainerFault.reserved h) none = (ReservedBitSet, refl, CellFault.reserved h)
   of-row j q (ContainerFault.form s h) none = (HeaderGrantForm, refl, CellFault.form (eq-eqb (header fm c 2 % 2) 1 s) h)
-  of-row j q (ContainerFault.inside g o n b s v) none = (StartInsideMessage, refl, CellFault.inside g b (goes-at (rank 5 g) none g b (omega arith) .1 (o, n, v)) (starts-cell g s))
-  of-row j q (ContainerFault.unknown g b s e) none = (UnknownMessage, refl, CellFault.unknown g b (starts-cell g s) (unknown-of g e))
+  of-row j q (ContainerFault.inside g o n b s v) none = (StartInsideMessage, refl, CellFault.inside g b (goes-at (rank 5 g) none g b (omega arith) .1 (o, n, v)) (starts-cell fm m c g s))
+  of-row j q (ContainerFault.unknown g b s e) none = (UnknownMessage, refl, CellFault.unknown g b (starts-cell fm m c g s) (unknown-of g e))
   of-row j q (ContainerFault.place g b s e) none =
-      let r = bytes-at (rank 7 g) none g b (omega arith) (starts-cell g s) in
-      (PlaceNotAllowed, refl, CellFault.place g b (starts-cell g s) (not-true-false _ (λ t. e (place-exactly fm law g b (granule fm g c) (msgSize (granule fm g c)) r .0 t))))
+      let r = bytes-at (rank 7 g) none g b (omega arith) (starts-cell fm m c g s) in
+      (PlaceNotAllowed, refl, CellFault.place g b (starts-cell fm m c g s) (not-true-false _ (λ t. e (place-exactly fm law g b (granule fm g c) (msgSize (granule fm g c)) r .0 t))))
   of-row j q (ContainerFault.head g b s e) none =
-      let r = bytes-at (rank 8 g) none g b (omega arith) (starts-cell g s) in
-      (HeadWrong, refl, CellFault.head g b (starts-cell g s) (not-true-false _ (λ t. e (head-exactly (granule fm g c) (msgSize (granule fm g c)) r .0 t))))
+      let r = bytes-at (rank 8 g) none g b (omega arith) (starts-cell fm m c g s) in
+      (HeadWrong, refl, CellFault.head g b (starts-cell fm m c g s) (not-true-false _ (λ t. e (head-exactly (granule fm g c) (msgSize (granule fm g c)) r .0 t))))
   of-row j q (ContainerFault.unused g i b u h) none =
       let f = follow-at (rank 9 g) none g b (omega arith) in
       (UnusedByteNotZero, refl, CellFault.unused g i b (unused-behind fm law m c n256 valid g (progress fm c m g) b f (λ t s. none StartInsideMessage g (CellFault.inside g b t s) (omega arith)) i u) h)
@@ -181,7 +181,7 @@ module _ (fm : Format) (law : Lawful fm) (m c : List ℕ) (n256 : length c ≡ 2
     SecondMisc,
     refl,
     CellFault.second r (g % 3) (h % 3) b (omega arith) (omega arith)
-        (subst (λ (z : ℕ). StartsMisc (cell z)) (sym (within r g a)) (starts-cell g s, x)) (subst (λ (z : ℕ). StartsMisc (cell z)) (sym (within r h d)) (starts-cell h t, y)),
+        (subst (λ (z : ℕ). StartsMisc (cell z)) (sym (within r g a)) (starts-cell fm m c g s, x)) (subst (λ (z : ℕ). StartsMisc (cell z)) (sym (within r h d)) (starts-cell fm m c h t, y)),
   )
   of-row j q (ContainerFault.many r b h) none = (TooManyResponses, refl, CellFault.many r b h)
-  of-row j q (ContainerFault.beside g b s a h) none = (GrantBesideActivation, refl, CellFault.beside g b (starts-cell g s, a .0, a .1) h)
+  of-row j q (ContainerFault.beside g b s a h) none = (GrantBesideActivation, refl, CellFault.beside g b (starts-cell fm m c g s, a .0, a .1) h)

@@ -5,6 +5,10 @@ pub mod AuditFaults
 pub mod FillFaults
 pub mod NamedLaws
 pub mod ContainerTable
+pub mod ReadTable
+pub mod FillTable
+pub mod AuditTable
+pub mod VerdictTable
 pub mod Refusals
 pub mod Packing
 pub mod TapLaws
