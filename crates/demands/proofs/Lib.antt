@@ -12,6 +12,7 @@ pub mod VerdictTable
 pub mod Refusals
 pub mod Packing
 pub mod TapLaws
+pub mod LinkRuleLaws
 pub mod Books
 pub mod LogRefused
 pub mod LogTap
