@@ -1,25 +1,36 @@
--- Demand 1: a refusal changes no state and no byte of lent memory; that every input is answered, and that every call ends, is in the
--- contracts, since no public entry has a `requires`.
+-- Demand 1: a refusal changes no state and no byte of lent memory, and names the cause and the place of the table; that every input is
+-- answered, and that every call ends, is in the contracts, since no public entry has a `requires`.
 use Prim.Native.Nat.{ℕ}
 use mathlib.Core.Path.{_≡_}
 use mathlib.Core.List.{List, []}
+use mathlib.Core.Logic.{_↔_}
 use lib.ListN.{length}
+use Rattle.lists.specs.Parts.{IsBytes}
 use Rattle.cause.specs.declared.Cause.{Cause}
+use Rattle.cause.specs.declared.Verdict.the-variants.{Sound, Faulty}
+use Rattle.container.specs.Layout.{formatOf, msgStart}
+use Rattle.container.specs.Grants.{headerGrant}
 use Rattle.container.specs.declared.grant.Grant.{Grant}
-use Rattle.reader.specs.Reading.{reading, readRoom, judging}
+use Rattle.record.specs.Records.{listFault}
+use Rattle.reader.specs.Reading.{records, reading, readRoom, judging}
+use Rattle.reader.specs.Reading as reader
 use Rattle.reader.specs.declared.reader.Reader.{Reader}
 use Rattle.reader.specs.declared.reader.Answer.the-variants as read
 use Rattle.reader.specs.declared.reader.Judgement.the-variants as judge
 use Rattle.ledger.specs.Audit.{auditing}
 use Rattle.ledger.specs.declared.ledger.Ledger.{Ledger}
 use Rattle.ledger.specs.declared.ledger.Answer.the-variants as audit
-use Rattle.writer.specs.Filling.{filling, fillBytes}
+use Rattle.writer.specs.Laying.{usedOf}
+use Rattle.writer.specs.Filling.{tailOf, filling, fillBytes}
+use Rattle.writer.specs.Filling as writer
 use Rattle.writer.specs.declared.writer.Writer.{Writer}
 use Rattle.writer.specs.declared.writer.Answer.the-variants as fill
 use Rattle.feeder.specs.Feeding.{feeding, fedPart}
 use Rattle.feeder.specs.declared.found.Waiting.{Waiting}
 use Rattle.feeder.specs.declared.feed.Feed.{Feed}
 use Rattle.feeder.specs.declared.feed.Answer.the-variants as ask
+use Rattle.demands.specs.Faults.{ReadFault, JudgeFault, AuditFault, ListFault, FillFault, FormatFault}
+use Rattle.demands.specs.Order.{Named, NamedBy, None, NoneBy}
 
 -- "A refusal changes no state and no byte of lent memory"
 pub record Demand1 : Type 0 where
@@ -36,3 +47,31 @@ pub record Demand1 : Type 0 where
   -- the feeder, with any lists and any feed; a refusal hands out no byte of them
   pub ask-state : (f : ℕ) (responses others : List ℕ) (s : Feed) (w : Waiting) (k : Cause) (p : ℕ) → feeding f responses others s .answer ≡ ask.Refused w k p → feeding f responses others s .feed ≡ s
   pub ask-part : (f : ℕ) (responses others : List ℕ) (s : Feed) (w : Waiting) (k : Cause) (p : ℕ) → feeding f responses others s .answer ≡ ask.Refused w k p → fedPart f responses others s ≡ []
+
+-- "A bad one is refused with a cause and a place from the fixed table": with those of a row that holds and that no row of a lower rank
+-- comes before; what no row holds of is accepted
+pub record Table : Type 0 where
+  -- the reader, with any container and any room
+  pub read-refused : (s : Reader) (c : List ℕ) (room : ℕ) (k : Cause) (p : ℕ) → (reading s c room .answer ≡ read.Refused k p) ↔ Named (ReadFault s c room) k p
+  pub read-accepted : (s : Reader) (c : List ℕ) (room : ℕ)
+      → (reading s c room .answer ≡ read.Done (length (records s c)) (headerGrant (formatOf (s .format)) c)) ↔ None (ReadFault s c room)
+  -- the judging entry
+  pub judge-refused : (s : Reader) (c : List ℕ) (k : Cause) (p : ℕ) → (judging s c .judgement ≡ judge.Refused k p) ↔ Named (JudgeFault s c) k p
+  pub judge-accepted : (s : Reader) (c : List ℕ)
+      → (judging s c .judgement ≡ judge.Accepted (headerGrant (formatOf (s .format)) c) (msgStart (formatOf (s .format)) c)) ↔ None (JudgeFault s c)
+  -- the audit, with any ledger, any direction number and any container
+  pub audit-refused : (s : Ledger) (d : ℕ) (c : List ℕ) (k : Cause) (p : ℕ) → (auditing s d c .answer ≡ audit.Refused k p) ↔ NamedBy (AuditFault s d c) k p
+  pub audit-accepted : (s : Ledger) (d : ℕ) (c : List ℕ) → (auditing s d c .answer ≡ audit.Accepted) ↔ NoneBy (AuditFault s d c)
+  -- the writer, with any list of bytes, any grant and any container
+  pub fill-refused : (w : Writer) (l : List ℕ) (n : Grant) (bytes : ℕ) → IsBytes l → (k : Cause) (p : ℕ)
+      → (filling w l n bytes .answer ≡ fill.Refused k p) ↔ Named (FillFault w l n bytes) k p
+  pub fill-accepted : (w : Writer) (l : List ℕ) (n : Grant) (bytes : ℕ) → IsBytes l
+      → (filling w l n bytes .answer ≡ fill.Filled (usedOf (formatOf (w .format)) n (tailOf w) l)) ↔ None (FillFault w l n bytes)
+  -- the check of a list of bytes
+  pub list-refused : (l : List ℕ) → IsBytes l → (k : Cause) (p : ℕ) → (listFault l ≡ Faulty k p) ↔ Named (ListFault l) k p
+  pub list-accepted : (l : List ℕ) → IsBytes l → (listFault l ≡ Sound) ↔ None (ListFault l)
+  -- a new reader and a new writer, with any format number
+  pub reader-refused : (f : ℕ) (k : Cause) (p : ℕ) → (reader.opened f .verdict ≡ Faulty k p) ↔ Named (FormatFault f) k p
+  pub reader-accepted : (f : ℕ) → (reader.opened f .verdict ≡ Sound) ↔ None (FormatFault f)
+  pub writer-refused : (f : ℕ) (k : Cause) (p : ℕ) → (writer.opened f .verdict ≡ Faulty k p) ↔ Named (FormatFault f) k p
+  pub writer-accepted : (f : ℕ) → (writer.opened f .verdict ≡ Sound) ↔ None (FormatFault f)

@@ -1,5 +1,7 @@
 pub mod Pools
+pub mod PoolRules
 pub mod Audit
+pub mod ValidLedger
 pub mod Idle
 pub mod Counting
 pub mod Run
@@ -7,3 +9,5 @@ pub mod Log
 pub mod Stream
 pub mod Cutting
 pub mod Calls
+pub mod PoolRules
+pub mod ValidLedger

@@ -5,7 +5,7 @@ use mathlib.Core.Bool.{Bool, true, false, _&&_, _||_}
 use mathlib.Core.List.{List}
 use mathlib.Core.Logic.{_⊎_, inl, inr, ⊎-elim, _↔_}
 use native.Mathlib.Omega.{arith}
-use lib.ListN.{length, getD, List·getD-eq-default}
+use lib.ListN.{length, List·getD-eq-default}
 use lib.Dec.{T, eqb, ltb}
 use borrow.Author.Tests.{eq-eqb, eqb-true, eqb-false}
 use Rattle.lists.specs.Pick.{pick}
@@ -14,14 +14,14 @@ use Rattle.container.specs.Layout.{Format, wide, granule, header, msgStart, bit
 use Rattle.container.specs.Lawful.{Lawful}
 use Rattle.message.specs.Heads.{typeOf, msgSize, wellHeaded}
 use Rattle.message.specs.Places.{placed, miscs}
-use Rattle.message.specs.HeadRules.{type, Bytes}
+use Rattle.message.specs.HeadRules.{byte, type, Bytes}
 use Rattle.message.proofs.HeadRuleLaws.{bytes-size, bytes-some, size-bytes, head-exactly, misc-exactly}
 use Rattle.message.proofs.PlaceRuleLaws.{place-exactly}
 use Rattle.reader.specs.Cells.{Cell, owed, cellAt}
 use Rattle.reader.specs.Checking.{used, populated, starting}
 use Rattle.reader.specs.Keeps.{progress, cellOf, KeepsGranule, KeepsGroup, Keeps}
 use Rattle.reader.specs.Reading.{carryOk}
-use Rattle.reader.specs.Rules.{startBit, Starts, Origin, GoesOn, Populated, GranuleRules, GroupRules, Rules}
+use Rattle.reader.specs.Rules.{startBit, Starts, Origin, GoesOn, Populated, Unused, rest, last, empty, GranuleRules, GroupRules, Rules}
 use Rattle.reader.proofs.OccupyLaws.{Follow, follow, on-goes, goes-on, goes-twenty, granule-sized}
 
 -- ---- groups
@@ -76,10 +76,10 @@ both-pick true t = refl
 both-pick false t = refl
 
 module _ (fm : Format) (law : Lawful fm) (m c : List ℕ) (n256 : length c ≡ 256) (valid : carryOk m ≡ true) where
-  starts-to : (g : ℕ) → Starts fm c g → T (bit (msgStart fm c) g)
+  pub starts-to : (g : ℕ) → Starts fm c g → T (bit (msgStart fm c) g)
   starts-to g s = true-T (bit (msgStart fm c) g) (eq-eqb (startBit fm c g) 1 s)
 
-  starts-of : (g : ℕ) → T (bit (msgStart fm c) g) → Starts fm c g
+  pub starts-of : (g : ℕ) → T (bit (msgStart fm c) g) → Starts fm c g
   starts-of g t = eqb-true (startBit fm c g) 1 (T-true (bit (msgStart fm c) g) t)
 
   -- ---- a granule
@@ -100,7 +100,7 @@ module _ (fm : Format) (law : Lawful fm) (m c : List ℕ) (n256 : length c ≡ 2
     T-goes t = on-goes fm law m c n256 valid g p b f (T-true on t)
 
     -- a granule is populated exactly where its cell is
-    populated-to : Populated fm m c g → T (populated e)
+    pub populated-to : Populated fm m c g → T (populated e)
     populated-to h = ⊎-elim (λ (s : Starts fm c g). right on (bit (msgStart fm c) g) (starts-to g s)) (λ v. left on (bit (msgStart fm c) g) (goes-T (v .0) (v .1) (v .2))) h
       where
         left : (a d : Bool) → T a → T (a || d)
@@ -111,8 +111,43 @@ module _ (fm : Format) (law : Lawful fm) (m c : List ℕ) (n256 : length c ≡ 2
         right true d t = tt
         right false d t = t
 
-    populated-of : T (populated e) → Populated fm m c g
+    pub populated-of : T (populated e) → Populated fm m c g
     populated-of t = ⊎-elim (λ (a : T on). inr (T-goes a)) (λ (s : T (bit (msgStart fm c) g)). inl (starts-of g s)) (or-cases on (bit (msgStart fm c) g) t)
+
+    not-on : (T on → ⊥) → on ≡ false
+    not-on h = not-true-false on (λ t. h (true-T on t))
+
+    used-on : T on → used e ≡ 20
+    used-on t = rw (T-true on t)
+
+    -- an unused byte lies behind what a message uses of the cell
+    pub unused-behind : (T on → T (bit (msgStart fm c) g) → ⊥) → (i : ℕ) → Unused fm m c g i → used e ≤ i
+    unused-behind apart i (rest n s r l) = subst (λ (z : ℕ). z ≤ i) (sym (used-start ∙ bytes-size x r)) l
+      where
+        used-start : used e ≡ msgSize x
+        used-start = rw (not-on (λ t. apart t (starts-to g s)), T-true (bit (msgStart fm c) g) (starts-to g s))
+    unused-behind apart i (last o n v l) = let h = goes-twenty fm law m c n256 valid g p b f o n v in subst (λ (z : ℕ). z ≤ i) (sym (used-on (goes-T o n v))) (omega arith)
+    unused-behind apart i (empty h) = subst (λ (z : ℕ). z ≤ i) (sym used-none) (omega arith)
+      where
+        used-none : used e ≡ 0
+        used-none = rw (not-on (λ t. h (inr (T-goes t))), not-true-false (bit (msgStart fm c) g) (λ t. h (inl (starts-of g (true-T (bit (msgStart fm c) g) t)))))
+
+    -- a byte behind what a message uses of the cell is unused, or there is none
+    pub behind-unused : (T (bit (msgStart fm c) g) → 0 < msgSize x) → (i : ℕ) → used e ≤ i → (byte x i ≡ 0) ⊎ Unused fm m c g i
+    behind-unused known i l = by on (bit (msgStart fm c) g) refl refl
+      where
+        by : (a s : Bool) → on ≡ a → bit (msgStart fm c) g ≡ s → (byte x i ≡ 0) ⊎ Unused fm m c g i
+        by true s ea es =
+            let u : used e ≡ 20 = rw ea in
+            let w = law .most g b in
+            let z = granule-sized fm law m c n256 valid g b in
+            inl (List·getD-eq-default x 0 {n = i} (omega arith))
+        by false true ea es =
+            let u : used e ≡ msgSize x = rw (ea, es) in
+            let t = true-T (bit (msgStart fm c) g) es in
+            inr (rest (msgSize x) (starts-of g t) (size-bytes x (known t)) (omega arith))
+        by false false ea es =
+            inr (empty (λ h. ⊎-elim (λ (s : Starts fm c g). never-both es (T-true (bit (msgStart fm c) g) (starts-to g s))) (λ v. never-both ea (T-true on (goes-T (v .0) (v .1) (v .2)))) h))
 
     rules-of-keeps : KeepsGranule fm g e → GranuleRules fm m c g
     rules-of-keeps k = record {
@@ -120,52 +155,23 @@ module _ (fm : Format) (law : Lawful fm) (m c : List ℕ) (n256 : length c ≡ 2
       place = λ s. place-exactly fm law g b x (msgSize x) (size s) .0 (T-true (placed fm g x) (k .place (starts-to g s)));
       head = λ s. head-exactly x (msgSize x) (size s) .0 (T-true (wellHeaded x) (k .head (starts-to g s)));
       alone = λ s o n v. k .apart (goes-T o n v) (starts-to g s);
-      rest = λ s n r i l. k .zero i (subst (λ (z : ℕ). z ≤ i) (sym (used-start s ∙ bytes-size x r)) l);
-      last = λ o n v i l. let h = goes-twenty fm law m c n256 valid g p b f o n v in k .zero i (subst (λ (z : ℕ). z ≤ i) (sym (used-on (goes-T o n v))) (omega arith));
-      empty = λ h i. k .zero i (subst (λ (z : ℕ). z ≤ i) (sym (used-none h)) (omega arith));
+      zero = λ i u. k .zero i (unused-behind (k .apart) i u);
     }
       where
         size : Starts fm c g → Bytes x (msgSize x)
         size s = size-bytes x (k .known (starts-to g s))
 
-        used-on : T on → used e ≡ 20
-        used-on t = rw (T-true on t)
-
-        not-on : (T on → ⊥) → on ≡ false
-        not-on h = not-true-false on (λ t. h (true-T on t))
-
-        used-start : Starts fm c g → used e ≡ msgSize x
-        used-start s = rw (not-on (λ t. k .apart t (starts-to g s)), T-true (bit (msgStart fm c) g) (starts-to g s))
-
-        used-none : (Populated fm m c g → ⊥) → used e ≡ 0
-        used-none h = rw (not-on (λ t. h (inr (T-goes t))), not-true-false (bit (msgStart fm c) g) (λ t. h (inl (starts-of g (true-T (bit (msgStart fm c) g) t)))))
-
     keeps-of-rules : GranuleRules fm m c g → KeepsGranule fm g e
     keeps-of-rules k = record {
       apart = λ t s. let v = T-goes t in k .alone (starts-of g s) (v .0) (v .1) (v .2);
-      known = λ s. let r = k .known (starts-of g s) in rw (bytes-size x (r .1)) (bytes-some x (r .1));
+      known = λ s. known s;
       place = λ s. let r = k .known (starts-of g s) in true-T (placed fm g x) (place-exactly fm law g b x (r .0) (r .1) .1 (k .place (starts-of g s)));
       head = λ s. let r = k .known (starts-of g s) in true-T (wellHeaded x) (head-exactly x (r .0) (r .1) .1 (k .head (starts-of g s)));
-      zero = λ i l. zero-at i l;
+      zero = λ i l. ⊎-elim (λ z. z) (λ u. k .zero i u) (behind-unused known i l);
     }
       where
-        zero-at : (i : ℕ) → used e ≤ i → getD x i 0 ≡ 0
-        zero-at i l = by on (bit (msgStart fm c) g) refl refl
-          where
-            by : (a s : Bool) → on ≡ a → bit (msgStart fm c) g ≡ s → getD x i 0 ≡ 0
-            by true s ea es =
-                let u : used e ≡ 20 = rw ea in
-                let w = law .most g b in
-                let z = granule-sized fm law m c n256 valid g b in
-                List·getD-eq-default x 0 {n = i} (omega arith)
-            by false true ea es =
-                let u : used e ≡ msgSize x = rw (ea, es) in
-                let s = starts-of g (true-T (bit (msgStart fm c) g) es) in
-                let r = k .known s in
-                let q = bytes-size x (r .1) in
-                k .rest s (r .0) (r .1) i (omega arith)
-            by false false ea es =
-                k .empty (λ h. ⊎-elim (λ (s : Starts fm c g). never-both es (T-true (bit (msgStart fm c) g) (starts-to g s))) (λ v. never-both ea (T-true on (goes-T (v .0) (v .1) (v .2)))) h) i
+        known : T (bit (msgStart fm c) g) → 0 < msgSize x
+        known s = let r = k .known (starts-of g s) in rw (bytes-size x (r .1)) (bytes-some x (r .1))
 
   -- ---- all granules
   abbrev cell : ℕ → Cell

@@ -57,6 +57,14 @@ pub record GoesOn (fm : Format) (m c : List ℕ) (o : Origin) (n g : ℕ) : Type
 abbrev pub Populated : Format → List ℕ → List ℕ → ℕ → Type 0
 Populated fm m c g = Starts fm c g ⊎ ((o : Origin) × (n : ℕ) × GoesOn fm m c o n g)
 
+-- byte i of granule g is unused
+pub data Unused (fm : Format) (m c : List ℕ) (g i : ℕ) : Type 0 where
+  -- "All bytes after a message's end in its granule,": in its only one, and in its last one
+  rest : (n : ℕ) → Starts fm c g → Bytes (granule fm g c) n → n ≤ i → Unused fm m c g i
+  last : (o : Origin) (n : ℕ) → GoesOn fm m c o n g → n ≤ before fm m c o g + i → Unused fm m c g i
+  -- "and all of an unpopulated granule,"
+  empty : (Populated fm m c g → ⊥) → Unused fm m c g i
+
 pub record GranuleRules (fm : Format) (m c : List ℕ) (g : ℕ) : Type 0 where
   -- what starts is a message of the table, where it may start, with a right head
   pub known : Starts fm c g → (n : ℕ) × Bytes (granule fm g c) n
@@ -64,11 +72,8 @@ pub record GranuleRules (fm : Format) (m c : List ℕ) (g : ℕ) : Type 0 where
   pub head : Starts fm c g → RightHead (granule fm g c)
   -- "A message begins at a granule's first byte": none starts where another goes on
   pub alone : Starts fm c g → (o : Origin) (n : ℕ) → GoesOn fm m c o n g → ⊥
-  -- "All bytes after a message's end in its granule,": in its only one, and in its last one
-  pub rest : Starts fm c g → (n : ℕ) → Bytes (granule fm g c) n → (i : ℕ) → n ≤ i → byte (granule fm g c) i ≡ 0
-  pub last : (o : Origin) (n : ℕ) → GoesOn fm m c o n g → (i : ℕ) → n ≤ before fm m c o g + i → byte (granule fm g c) i ≡ 0
-  -- "and all of an unpopulated granule, are zero."
-  pub empty : (Populated fm m c g → ⊥) → (i : ℕ) → byte (granule fm g c) i ≡ 0
+  -- "All bytes after a message's end in its granule, and all of an unpopulated granule, are zero."
+  pub zero : (i : ℕ) → Unused fm m c g i → byte (granule fm g c) i ≡ 0
 
 -- what starts in granule g, counted among the responses
 abbrev pub responsesAt : Format → List ℕ → ℕ → ℕ

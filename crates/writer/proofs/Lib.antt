@@ -20,3 +20,4 @@ pub mod StateCases
 pub mod TailLaws
 pub mod AnswerLaws
 pub mod StartedHere
+pub mod ValidLaws

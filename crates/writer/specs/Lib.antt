@@ -4,3 +4,4 @@ pub mod OneWay
 pub mod Filling
 pub mod Calls
 pub mod Holding
+pub mod ValidWriter

@@ -1,0 +1,515 @@
+-- The audit refuses with the first of the faults of the checks. Assumes nothing.
+use Prim.Native.Nat.{ℕ, zero, suc, _+_, _*_, _/_, _%_, _≤_, _<_}
+use mathlib.Core.Path.{_≡_, refl, sym, ap, _∙_, subst}
+use mathlib.Core.Bool.{Bool, true, false, _&&_, _||_, not}
+use mathlib.Core.List.{List, [], _∷_, _++_}
+use mathlib.Core.Logic.{_⊎_, inl, inr, ⊎-elim, _↔_}
+use native.Mathlib.Omega.{arith}
+use lib.ListN.{length, getD, take, drop}
+use lib.Dec.{T, eqb, ltb, leb}
+use borrow.Author.Tests.{le-ltb, lt-leb, eq-eqb, ne-eqb, ltb-false, leb-false, eqb-true, eqb-false}
+use Rattle.lists.specs.Pick.{pick}
+use Rattle.lists.proofs.Tests.{cases, T-true, true-T, and-left, and-right, and-both, and-false}
+use Rattle.cause.specs.Checks.{Check, check, firstFault}
+use Rattle.cause.specs.declared.Cause.{Cause}
+use Rattle.cause.specs.declared.Cause.the-variants.{InvalidState, ContainerLength, MissingPool, BegunOverGranted, GrantedOverCapacity}
+use Rattle.cause.specs.declared.Verdict.{Verdict}
+use Rattle.cause.specs.declared.Verdict.the-variants.{Sound, Faulty}
+use Rattle.container.specs.Layout.{Format, formatOf, start}
+use Rattle.container.specs.Grants.{headerGrant}
+use Rattle.container.specs.declared.grant.Grant.{Grant}
+use Rattle.message.specs.Heads.{typeOf, opOf, classOf, isMisc, miscU, crdtGrant}
+use Rattle.message.specs.Charges.{sharedCrdt, resPlane}
+use Rattle.message.specs.HeadRules.{among}
+use Rattle.reader.specs.Cells.{Cell, startings}
+use Rattle.reader.specs.Keeps.{progress, cellOf}
+use Rattle.reader.specs.Reading.{carried, stateChecks}
+use Rattle.reader.proofs.ProgressLaws.{listFrom, cells-of}
+use Rattle.ledger.specs.PoolRules.{grantIn, capacityOf}
+use Rattle.ledger.specs.Pools.{hasPool, paysReq, paysData, paysPush, messageChecks, grantChecks, allMessages, allGrants, paidTo, grantedTo, grantsIn}
+use Rattle.ledger.specs.Audit.{receiverOf, readerOf, heldOf, openOf, ledgerOk, opposite, begun, granted, heldChecks, roomChecks, auditChecks, answerOf, auditing}
+use Rattle.ledger.specs.declared.receiver.Receiver.{Receiver}
+use Rattle.ledger.specs.declared.ledger.Ledger.{Ledger}
+use Rattle.ledger.specs.declared.ledger.Answer.the-variants as answer
+use Rattle.demands.specs.Faults.{PaymentFault, GrantFault, dedicated, push, dat0, dat1}
+use Rattle.demands.proofs.CellFaults.{turnOf, entryCell, AuditCells, message, heading, granting, over, full}
+use Rattle.cause.proofs.FirstLaws.{Site, tests, tests-append, Fails, fails-front, fails-back, Rises, rises-from, rises-to, rises-append, Sounds, sounds-append, First, None, Lists, listed-first, listed-none}
+use Rattle.demands.proofs.ContainerFaults.{ranked, tests-ranked, fails-as, guard-fails, fail-guard, and-fails, fail-left, fail-right, or-fails, not-zero, zero-not, containerSites, container-complete, container-rises, container-sound}
+use Rattle.demands.proofs.ReadFaults.{chain}
+
+-- ---- a family of faults by cause, turn and place
+abbrev pub Turned : (Cause → ℕ → ℕ → Type 0) → ℕ → Cause → ℕ → Type 0
+Turned F r k p = (t : ℕ) × (turnOf k t ≡ r) × F k t p
+
+-- ---- sites that are there where a test holds
+module _ (x : List Site) where
+  abbrev only : Bool → List Site
+  only b = pick b x []
+
+  only-sounds : (R : ℕ → Cause → ℕ → Type 0) (b : Bool) → (T b → Sounds R x) → Sounds R (only b)
+  only-sounds R true h = h tt
+  only-sounds R false h = tt
+
+  only-rises : (b : Bool) (lo hi : ℕ) → lo ≤ hi → Rises lo x hi → Rises lo (only b) hi
+  only-rises true lo hi l h = h
+  only-rises false lo hi l h = l
+
+  only-fails : (b : Bool) (r : ℕ) (k : Cause) (p : ℕ) → T b → Fails r k p x → Fails r k p (only b)
+  only-fails true r k p t h = h
+  only-fails false r k p t h = absurd t
+
+-- ---- 14 of a message
+-- no type of a list is over 10
+abbrev Types : List ℕ → Type 0
+Types [] = Unit {0}
+Types (a ∷ ts) = (a ≤ 10) × Types ts
+
+-- a type over 10 is none of a list of types
+none-over : (t : ℕ) → 10 < t → (ts : List ℕ) → Types ts → among ts t ≡ false
+none-over t h [] k = refl
+none-over t h (a ∷ ts) k = let b = k .0 in rw (ne-eqb t a (λ e. omega arith)) (none-over t h ts (k .1))
+
+-- what pays, by type
+pays-types : (t : ℕ) → (paysReq (classOf t) ≡ among (1 ∷ 2 ∷ 8 ∷ 9 ∷ []) t) × (paysData (classOf t) ≡ among (6 ∷ 7 ∷ []) t) × (paysPush (classOf t) ≡ among (8 ∷ 9 ∷ []) t)
+pays-types zero = (refl, refl, refl)
+pays-types (suc zero) = (refl, refl, refl)
+pays-types (suc (suc zero)) = (refl, refl, refl)
+pays-types (suc (suc (suc zero))) = (refl, refl, refl)
+pays-types (suc (suc (suc (suc zero)))) = (refl, refl, refl)
+pays-types (suc (suc (suc (suc (suc zero))))) = (refl, refl, refl)
+pays-types (suc (suc (suc (suc (suc (suc zero)))))) = (refl, refl, refl)
+pays-types (suc (suc (suc (suc (suc (suc (suc zero))))))) = (refl, refl, refl)
+pays-types (suc (suc (suc (suc (suc (suc (suc (suc zero)))))))) = (refl, refl, refl)
+pays-types (suc (suc (suc (suc (suc (suc (suc (suc (suc zero))))))))) = (refl, refl, refl)
+pays-types (suc (suc (suc (suc (suc (suc (suc (suc (suc (suc zero)))))))))) = (refl, refl, refl)
+pays-types (suc (suc (suc (suc (suc (suc (suc (suc (suc (suc (suc t))))))))))) =
+    let l : 10 < suc (suc (suc (suc (suc (suc (suc (suc (suc (suc (suc t)))))))))) = omega arith in (
+      sym (none-over (suc (suc (suc (suc (suc (suc (suc (suc (suc (suc (suc t))))))))))) l (1 ∷ 2 ∷ 8 ∷ 9 ∷ []) (omega arith, (omega arith, (omega arith, (omega arith, tt))))),
+      sym (none-over (suc (suc (suc (suc (suc (suc (suc (suc (suc (suc (suc t))))))))))) l (6 ∷ 7 ∷ []) (omega arith, (omega arith, tt))),
+      sym (none-over (suc (suc (suc (suc (suc (suc (suc (suc (suc (suc (suc t))))))))))) l (8 ∷ 9 ∷ []) (omega arith, (omega arith, tt))),
+    )
+
+module _ (r : Receiver) (m : List ℕ) where
+  abbrev t : ℕ
+  t = typeOf m
+
+  -- its three checks, at turns from a base on
+  abbrev paymentSites : ℕ → List Site
+  paymentSites n =
+      record { turn = n + 0; test = check (not (paysReq (classOf t)) || ltb (resPlane (getD m 0 0)) (r .planes)) MissingPool (1 + resPlane (getD m 0 0)) }
+      ∷ record { turn = n + 1; test = check (not (paysData (classOf t)) || (sharedCrdt (getD m 0 0) || hasPool r 12)) MissingPool 12 }
+      ∷ record { turn = n + 2; test = check (not (paysPush (classOf t)) || (r .push && (eqb (getD m 1 0 % 2) 1 || hasPool r 13))) MissingPool 13 }
+      ∷ []
+
+  payment-rises : (n : ℕ) → Rises n (paymentSites n) (n + 3)
+  payment-rises n = (omega arith, (omega arith, (omega arith, omega arith)))
+
+  plane-fault : (not (paysReq (classOf t)) || ltb (resPlane (getD m 0 0)) (r .planes)) ≡ false → PaymentFault r m 0 (1 + resPlane (getD m 0 0))
+  plane-fault e =
+      let w = guard-fails (paysReq (classOf t)) (ltb (resPlane (getD m 0 0)) (r .planes)) e in
+      PaymentFault.bad-plane (subst T (pays-types t .0) (w .0)) (ltb-false (resPlane (getD m 0 0)) (r .planes) (w .1))
+
+  data-fault : (not (paysData (classOf t)) || (sharedCrdt (getD m 0 0) || hasPool r 12)) ≡ false → PaymentFault r m 1 12
+  data-fault e =
+      let w = guard-fails (paysData (classOf t)) (sharedCrdt (getD m 0 0) || hasPool r 12) e in
+      let v = or-fails (sharedCrdt (getD m 0 0)) (hasPool r 12) (w .1) in
+      dedicated (subst T (pays-types t .1) (w .0)) (eqb-false (getD m 0 0 / 16 % 2) 1 (v .0)) (v .1)
+
+  push-fault : (not (paysPush (classOf t)) || (r .push && (eqb (getD m 1 0 % 2) 1 || hasPool r 13))) ≡ false → PaymentFault r m 2 13
+  push-fault e = push (subst T (pays-types t .2) (w .0)) (⊎-elim (λ a. inl a) missing (and-fails (r .push) (eqb (getD m 1 0 % 2) 1 || hasPool r 13) (w .1)))
+    where
+      w : T (paysPush (classOf t)) × ((r .push && (eqb (getD m 1 0 % 2) 1 || hasPool r 13)) ≡ false)
+      w = guard-fails (paysPush (classOf t)) (r .push && (eqb (getD m 1 0 % 2) 1 || hasPool r 13)) e
+
+      missing : (eqb (getD m 1 0 % 2) 1 || hasPool r 13) ≡ false → (r .push ≡ false) ⊎ ((getD m 1 0 % 2 ≡ 1 → ⊥) × (r .planes < 2))
+      missing f =
+          let v = or-fails (eqb (getD m 1 0 % 2) 1) (hasPool r 13) f in
+          ⊎-elim (λ a. inl a) (λ b. inr (eqb-false (getD m 1 0 % 2) 1 (v .0), leb-false 2 (r .planes) b)) (and-fails (r .push) (leb 2 (r .planes)) (v .1))
+
+  payment-sounds : (R : ℕ → Cause → ℕ → Type 0) (n : ℕ) → ((u p : ℕ) → PaymentFault r m u p → R (n + u) MissingPool p) → Sounds R (paymentSites n)
+  payment-sounds R n h = (λ e. h 0 _ (plane-fault e), (λ e. h 1 _ (data-fault e), (λ e. h 2 _ (push-fault e), tt)))
+
+  payment-fails : (n u p : ℕ) → PaymentFault r m u p → Fails (n + u) MissingPool p (paymentSites n)
+  payment-fails n u p (PaymentFault.bad-plane k l) =
+      inl (refl, fails-as _ _ _ (fail-guard (paysReq (classOf t)) _ (subst T (sym (pays-types t .0)) k) (le-ltb (resPlane (getD m 0 0)) (r .planes) l)))
+  payment-fails n u p (dedicated k s h) =
+      inr (inl (refl, fails-as _ _ _ (fail-guard (paysData (classOf t)) _ (subst T (sym (pays-types t .1)) k) (none (sharedCrdt (getD m 0 0)) (r .push) (ne-eqb (getD m 0 0 / 16 % 2) 1 s) h))))
+    where
+      none : (a b : Bool) → a ≡ false → b ≡ false → (a || b) ≡ false
+      none a b e f = rw (e, f)
+  payment-fails n u p (push k h) = inr (inr (inl (refl, fails-as _ _ _ (fail-guard (paysPush (classOf t)) _ (subst T (sym (pays-types t .2)) k) (missing h)))))
+    where
+      missing : (r .push ≡ false) ⊎ ((getD m 1 0 % 2 ≡ 1 → ⊥) × (r .planes < 2)) → (r .push && (eqb (getD m 1 0 % 2) 1 || (r .push && leb 2 (r .planes)))) ≡ false
+      missing (inl e) = rw e
+      missing (inr w) = rw (ne-eqb (getD m 1 0 % 2) 1 (w .0), lt-leb 2 (r .planes) (w .1)) (twice (r .push))
+        where
+          twice : (a : Bool) → (a && (false || (a && false))) ≡ false
+          twice true = refl
+          twice false = refl
+
+-- ---- 14 of a grant
+module _ (r : Receiver) (n : Grant) where
+  abbrev grantSites : ℕ → List Site
+  grantSites b =
+      record { turn = b + 0; test = check (n .shc || ltb (n .rp) (r .planes)) MissingPool (1 + n .rp) }
+      ∷ record { turn = b + 1; test = check (n .shc || (eqb (n .dat) 0 || (r .push && ltb (n .rp) 2))) MissingPool (pick (eqb (n .rp) 0) 12 13) }
+      ∷ []
+
+  grant-rises : (b : ℕ) → Rises b (grantSites b) (b + 2)
+  grant-rises b = (omega arith, (omega arith, omega arith))
+
+  grant-plane : (n .shc || ltb (n .rp) (r .planes)) ≡ false → GrantFault r n 0 (1 + n .rp)
+  grant-plane e = let w = or-fails (n .shc) (ltb (n .rp) (r .planes)) e in GrantFault.bad-plane (w .0) (ltb-false (n .rp) (r .planes) (w .1))
+
+  grant-dat : (n .shc || (eqb (n .dat) 0 || (r .push && ltb (n .rp) 2))) ≡ false → GrantFault r n 1 (pick (eqb (n .rp) 0) 12 13)
+  grant-dat e = ⊎-elim zeroth later (cases (eqb (n .rp) 0))
+    where
+      w : (n .shc ≡ false) × ((eqb (n .dat) 0 || (r .push && ltb (n .rp) 2)) ≡ false)
+      w = or-fails (n .shc) (eqb (n .dat) 0 || (r .push && ltb (n .rp) 2)) e
+
+      v : (eqb (n .dat) 0 ≡ false) × ((r .push && ltb (n .rp) 2) ≡ false)
+      v = or-fails (eqb (n .dat) 0) (r .push && ltb (n .rp) 2) (w .1)
+
+      zeroth : eqb (n .rp) 0 ≡ true → GrantFault r n 1 (pick (eqb (n .rp) 0) 12 13)
+      zeroth z =
+          let o = eqb-true (n .rp) 0 z in
+          rw z (dat0 (w .0) (not-zero (n .dat) (v .0)) o (⊎-elim (λ a. a) (λ b. let l = ltb-false (n .rp) 2 b in absurd (omega arith)) (and-fails (r .push) (ltb (n .rp) 2) (v .1))))
+
+      later : eqb (n .rp) 0 ≡ false → GrantFault r n 1 (pick (eqb (n .rp) 0) 12 13)
+      later z = rw z (dat1 (w .0) (not-zero (n .dat) (v .0)) (not-zero (n .rp) z) (⊎-elim (λ a. inl a) (λ b. inr (ltb-false (n .rp) 2 b)) (and-fails (r .push) (ltb (n .rp) 2) (v .1))))
+
+  grant-sounds : (R : ℕ → Cause → ℕ → Type 0) (b : ℕ) → ((u p : ℕ) → GrantFault r n u p → R (b + u) MissingPool p) → Sounds R (grantSites b)
+  grant-sounds R b h = (λ e. h 0 _ (grant-plane e), (λ e. h 1 _ (grant-dat e), tt))
+
+  grant-fails : (b u p : ℕ) → GrantFault r n u p → Fails (b + u) MissingPool p (grantSites b)
+  grant-fails b u p (GrantFault.bad-plane s l) = inl (refl, fails-as _ _ _ (rw (s, le-ltb (n .rp) (r .planes) l)))
+  grant-fails b u p (dat0 s d o h) = inr (inl (refl, at))
+    where
+      at : check (n .shc || (eqb (n .dat) 0 || (r .push && ltb (n .rp) 2))) MissingPool (pick (eqb (n .rp) 0) 12 13) ≡ check false MissingPool 12
+      at = rw (s, zero-not (n .dat) d, h, eq-eqb (n .rp) 0 o)
+  grant-fails b u p (dat1 s d o h) = inr (inl (refl, at h))
+    where
+      at : (r .push ≡ false) ⊎ (2 ≤ n .rp) → check (n .shc || (eqb (n .dat) 0 || (r .push && ltb (n .rp) 2))) MissingPool (pick (eqb (n .rp) 0) 12 13) ≡ check false MissingPool 13
+      at (inl h) = rw (s, zero-not (n .dat) d, h, zero-not (n .rp) o)
+      at (inr h) = rw (s, zero-not (n .dat) d, le-ltb (n .rp) 2 h, zero-not (n .rp) o) (ap (λ (b : Bool). check b MissingPool 13) (and-false (r .push)))
+
+-- ---- by granules
+module _ (r : Receiver) (f : ℕ → Cell) where
+  -- the messages that start in granules g, g + 1, .., k of them
+  unfoldable messageSites : ℕ → ℕ → List Site
+  messageSites zero g = []
+  messageSites (suc k) g = pick (f g .starts) (paymentSites r (f g .bytes) (500 + 3 * g)) [] ++ messageSites k (g + 1)
+
+  message-tests : (k g : ℕ) → tests (messageSites k g) ≡ allMessages r (startings (listFrom f k g))
+  unfolding messageSites allMessages startings listFrom
+  message-tests zero g = refl
+  message-tests (suc k) g =
+      ⊎-elim (λ (e : f g .starts ≡ true). rw e (ap (λ (l : List Check). messageChecks r (f g .bytes) ++ l) (message-tests k (g + 1))))
+      (λ (e : f g .starts ≡ false). rw e (message-tests k (g + 1)))
+      (cases (f g .starts))
+
+  messages-rise : (k g : ℕ) → Rises (500 + 3 * g) (messageSites k g) (500 + 3 * (g + k))
+  unfolding messageSites
+  messages-rise zero g = omega arith
+  messages-rise (suc k) g =
+      let e : g + suc k ≡ g + 1 + k = omega arith in
+      rises-append (500 + 3 * g) (pick (f g .starts) (paymentSites r (f g .bytes) (500 + 3 * g)) []) (500 + 3 * g + 3) (messageSites k (g + 1)) (500 + 3 * (g + suc k))
+      (only-rises (paymentSites r (f g .bytes) (500 + 3 * g)) (f g .starts) (500 + 3 * g) (500 + 3 * g + 3) (omega arith) (payment-rises r (f g .bytes) (500 + 3 * g)))
+      (rises-from (500 + 3 * g + 3) (500 + 3 * (g + 1)) (messageSites k (g + 1)) (500 + 3 * (g + suc k)) (omega arith) (rw e (messages-rise k (g + 1))))
+
+  messages-sound : (R : ℕ → Cause → ℕ → Type 0) → ((g u p : ℕ) → g < 12 → T (f g .starts) → PaymentFault r (f g .bytes) u p → R (500 + 3 * g + u) MissingPool p)
+      → (k g : ℕ) → g + k ≤ 12 → Sounds R (messageSites k g)
+  unfolding messageSites
+  messages-sound R h zero g b = tt
+  messages-sound R h (suc k) g b =
+      sounds-append R (pick (f g .starts) (paymentSites r (f g .bytes) (500 + 3 * g)) []) (messageSites k (g + 1))
+      (only-sounds (paymentSites r (f g .bytes) (500 + 3 * g)) R (f g .starts) (λ s. payment-sounds r (f g .bytes) R (500 + 3 * g) (λ u p w. h g u p (omega arith) s w)))
+      (messages-sound R h k (g + 1) (omega arith))
+
+  message-fails : (k g j u p : ℕ) → g ≤ j → j < g + k → T (f j .starts) → PaymentFault r (f j .bytes) u p → Fails (500 + 3 * j + u) MissingPool p (messageSites k g)
+  unfolding messageSites
+  message-fails zero g j u p a b s h = absurd (omega arith)
+  message-fails (suc k) g j u p a b s h = ⊎-elim here (λ (e : eqb j g ≡ false). let d = eqb-false j g e in fails-back (500 + 3 * j + u) MissingPool p (pick (f g .starts) (paymentSites r (f g .bytes) (500 + 3 * g)) []) (messageSites k (g + 1)) (message-fails k (g + 1) j u p (omega arith) (omega arith) s h)) (cases (eqb j g))
+    where
+      at : (i : ℕ) → T (f i .starts) → PaymentFault r (f i .bytes) u p → Fails (500 + 3 * i + u) MissingPool p (pick (f i .starts) (paymentSites r (f i .bytes) (500 + 3 * i)) [])
+      at i s h = only-fails (paymentSites r (f i .bytes) (500 + 3 * i)) (f i .starts) (500 + 3 * i + u) MissingPool p s (payment-fails r (f i .bytes) (500 + 3 * i) u p h)
+
+      here : eqb j g ≡ true → Fails (500 + 3 * j + u) MissingPool p (pick (f g .starts) (paymentSites r (f g .bytes) (500 + 3 * g)) [] ++ messageSites k (g + 1))
+      here e =
+          fails-front (500 + 3 * j + u) MissingPool p (pick (f g .starts) (paymentSites r (f g .bytes) (500 + 3 * g)) []) (messageSites k (g + 1))
+          (subst (λ (i : ℕ). Fails (500 + 3 * j + u) MissingPool p (pick (f i .starts) (paymentSites r (f i .bytes) (500 + 3 * i)) [])) (eqb-true j g e) (at j s h))
+
+  -- the CrdtGrants that start in granules g, g + 1, .., k of them
+  abbrev grants : ℕ → Bool
+  grants g = f g .starts && isMisc (f g .bytes) crdtGrant
+
+  abbrev grantAt : ℕ → List Site
+  grantAt g = grantSites r (grantIn (f g .bytes)) (550 + 2 * g)
+
+  unfoldable crdtSites : ℕ → ℕ → List Site
+  crdtSites zero g = []
+  crdtSites (suc k) g = pick (grants g) (grantAt g) [] ++ crdtSites k (g + 1)
+
+  crdt-tests : (k g : ℕ) → tests (crdtSites k g) ≡ allGrants r (grantsIn (startings (listFrom f k g)))
+  unfolding crdtSites allGrants grantsIn startings listFrom
+  crdt-tests zero g = refl
+  crdt-tests (suc k) g =
+      ⊎-elim
+      (λ (e : f g .starts ≡ true).
+      ⊎-elim (λ (i : isMisc (f g .bytes) crdtGrant ≡ true). rw (e, i) (ap (λ (l : List Check). grantChecks r (grantIn (f g .bytes)) ++ l) (crdt-tests k (g + 1))))
+      (λ (i : isMisc (f g .bytes) crdtGrant ≡ false). rw (e, i) (crdt-tests k (g + 1)))
+      (cases (isMisc (f g .bytes) crdtGrant)))
+      (λ (e : f g .starts ≡ false). rw e (crdt-tests k (g + 1)))
+      (cases (f g .starts))
+
+  crdts-rise : (k g : ℕ) → Rises (550 + 2 * g) (crdtSites k g) (550 + 2 * (g + k))
+  unfolding crdtSites
+  crdts-rise zero g = omega arith
+  crdts-rise (suc k) g =
+      let e : g + suc k ≡ g + 1 + k = omega arith in
+      rises-append (550 + 2 * g) (pick (grants g) (grantAt g) []) (550 + 2 * g + 2) (crdtSites k (g + 1)) (550 + 2 * (g + suc k))
+      (only-rises (grantAt g) (grants g) (550 + 2 * g) (550 + 2 * g + 2) (omega arith) (grant-rises r (grantIn (f g .bytes)) (550 + 2 * g)))
+      (rises-from (550 + 2 * g + 2) (550 + 2 * (g + 1)) (crdtSites k (g + 1)) (550 + 2 * (g + suc k)) (omega arith) (rw e (crdts-rise k (g + 1))))
+
+  crdts-sound : (R : ℕ → Cause → ℕ → Type 0) → ((g u p : ℕ) → g < 12 → T (grants g) → GrantFault r (grantIn (f g .bytes)) u p → R (550 + 2 * g + u) MissingPool p)
+      → (k g : ℕ) → g + k ≤ 12 → Sounds R (crdtSites k g)
+  unfolding crdtSites
+  crdts-sound R h zero g b = tt
+  crdts-sound R h (suc k) g b =
+      sounds-append R (pick (grants g) (grantAt g) []) (crdtSites k (g + 1))
+      (only-sounds (grantAt g) R (grants g) (λ s. grant-sounds r (grantIn (f g .bytes)) R (550 + 2 * g) (λ u p w. h g u p (omega arith) s w)))
+      (crdts-sound R h k (g + 1) (omega arith))
+
+  crdt-fails : (k g j u p : ℕ) → g ≤ j → j < g + k → T (grants j) → GrantFault r (grantIn (f j .bytes)) u p → Fails (550 + 2 * j + u) MissingPool p (crdtSites k g)
+  unfolding crdtSites
+  crdt-fails zero g j u p a b s h = absurd (omega arith)
+  crdt-fails (suc k) g j u p a b s h = ⊎-elim here (λ (e : eqb j g ≡ false). let d = eqb-false j g e in fails-back (550 + 2 * j + u) MissingPool p (pick (grants g) (grantAt g) []) (crdtSites k (g + 1)) (crdt-fails k (g + 1) j u p (omega arith) (omega arith) s h)) (cases (eqb j g))
+    where
+      here : eqb j g ≡ true → Fails (550 + 2 * j + u) MissingPool p (pick (grants g) (grantAt g) [] ++ crdtSites k (g + 1))
+      here e =
+          fails-front (550 + 2 * j + u) MissingPool p (pick (grants g) (grantAt g) []) (crdtSites k (g + 1))
+          (subst (λ (i : ℕ). Fails (550 + 2 * j + u) MissingPool p (pick (grants i) (grantAt i) [])) (eqb-true j g e)
+          (only-fails (grantAt j) (grants j) (550 + 2 * j + u) MissingPool p s (grant-fails r (grantIn (f j .bytes)) (550 + 2 * j) u p h)))
+
+-- ---- 15 and 16, by pools
+module _ (s : Ledger) (d : ℕ) where
+  module _ (ms : List (List ℕ)) where
+    held-rise : (k p : ℕ) → Rises (600 + p) (ranked (heldChecks s d ms k p)) (600 + (p + k))
+    unfolding heldChecks
+    held-rise zero p = omega arith
+    held-rise (suc k) p =
+        let e : p + suc k ≡ p + 1 + k = omega arith in
+        (omega arith, rises-from (suc (600 + p)) (600 + (p + 1)) (ranked (heldChecks s d ms k (p + 1))) (600 + (p + suc k)) (omega arith) (rw e (held-rise k (p + 1))))
+
+    held-sound : (R : ℕ → Cause → ℕ → Type 0) → ((p : ℕ) → p < 14 → heldOf s d p < paidTo p ms → R (600 + p) BegunOverGranted p)
+        → (k p : ℕ) → p + k ≤ 14 → Sounds R (ranked (heldChecks s d ms k p))
+    unfolding heldChecks
+    held-sound R h zero p b = tt
+    held-sound R h (suc k) p b = (λ t. h p (omega arith) (leb-false (paidTo p ms) (heldOf s d p) t), held-sound R h k (p + 1) (omega arith))
+
+    held-fails : (k p j : ℕ) → p ≤ j → j < p + k → heldOf s d j < paidTo j ms → Fails (600 + j) BegunOverGranted j (ranked (heldChecks s d ms k p))
+    unfolding heldChecks
+    held-fails zero p j a b h = absurd (omega arith)
+    held-fails (suc k) p j a b h =
+        ⊎-elim (λ (e : eqb j p ≡ true). let q = eqb-true j p e in inl (let z : 600 + p ≡ 600 + j = omega arith in z, ap (λ (i : ℕ). check (leb (paidTo i ms) (heldOf s d i)) BegunOverGranted i) (sym q) ∙ fails-as _ _ _ (lt-leb (paidTo j ms) (heldOf s d j) h)))
+        (λ (e : eqb j p ≡ false). let q = eqb-false j p e in inr (held-fails k (p + 1) j (omega arith) (omega arith) h))
+        (cases (eqb j p))
+
+  module _ (ns : List Grant) where
+    abbrev room : ℕ → ℕ
+    room p = capacityOf (receiverOf s d) p
+
+    abbrev needed : ℕ → ℕ
+    needed p = heldOf s d p + (grantedTo p ns + openOf s d p)
+
+    room-rise : (k p : ℕ) → Rises (700 + p) (ranked (roomChecks s d ns k p)) (700 + (p + k))
+    unfolding roomChecks
+    room-rise zero p = omega arith
+    room-rise (suc k) p =
+        let e : p + suc k ≡ p + 1 + k = omega arith in
+        (omega arith, rises-from (suc (700 + p)) (700 + (p + 1)) (ranked (roomChecks s d ns k (p + 1))) (700 + (p + suc k)) (omega arith) (rw e (room-rise k (p + 1))))
+
+    room-sound : (R : ℕ → Cause → ℕ → Type 0) → ((p : ℕ) → p < 14 → room p < needed p → R (700 + p) GrantedOverCapacity p)
+        → (k p : ℕ) → p + k ≤ 14 → Sounds R (ranked (roomChecks s d ns k p))
+    unfolding roomChecks
+    room-sound R h zero p b = tt
+    room-sound R h (suc k) p b = (λ t. h p (omega arith) (leb-false (needed p) (room p) t), room-sound R h k (p + 1) (omega arith))
+
+    room-fails : (k p j : ℕ) → p ≤ j → j < p + k → room j < needed j → Fails (700 + j) GrantedOverCapacity j (ranked (roomChecks s d ns k p))
+    unfolding roomChecks
+    room-fails zero p j a b h = absurd (omega arith)
+    room-fails (suc k) p j a b h =
+        ⊎-elim (λ (e : eqb j p ≡ true). let q = eqb-true j p e in inl (let z : 700 + p ≡ 700 + j = omega arith in z, ap (λ (i : ℕ). check (leb (needed i) (room i)) GrantedOverCapacity i) (sym q) ∙ fails-as _ _ _ (lt-leb (needed j) (room j) h)))
+        (λ (e : eqb j p ≡ false). let q = eqb-false j p e in inr (room-fails k (p + 1) j (omega arith) (omega arith) h))
+        (cases (eqb j p))
+
+-- ---- an entry
+module _ (s : Ledger) (d : ℕ) (c : List ℕ) where
+  abbrev fm : Format
+  fm = formatOf (s .format)
+
+  abbrev m : List ℕ
+  m = carried (readerOf s d)
+
+  abbrev cell : ℕ → Cell
+  cell = entryCell s d c
+
+  abbrev own : Receiver
+  own = receiverOf s d
+
+  abbrev far : Receiver
+  far = receiverOf s (opposite d)
+
+  abbrev Of : ℕ → Cause → ℕ → Type 0
+  Of = Turned (AuditCells s d c)
+
+  begun-as : begun s d c ≡ startings (listFrom cell 12 0)
+  unfolding begun progress
+  begun-as = ap startings (cells-of fm c m 12 0)
+
+  abbrev payments : List Site
+  payments = messageSites own cell 12 0
+
+  abbrev heading' : List Site
+  heading' = grantSites far (headerGrant fm c) 540
+
+  abbrev crdts : List Site
+  crdts = crdtSites far cell 12 0
+
+  abbrev helds : List Site
+  helds = ranked (heldChecks s d (begun s d c) 14 0)
+
+  abbrev rooms : List Site
+  rooms = ranked (roomChecks s (opposite d) (granted s d c) 14 0)
+
+  abbrev sites : List Site
+  sites =
+      ranked (check (ltb d 2 && ledgerOk s) InvalidState 0 ∷ check (eqb (length c) 256) ContainerLength 0 ∷ [])
+      ++ (containerSites fm m c ++ (payments ++ (heading' ++ (crdts ++ (helds ++ rooms)))))
+
+  grants-tests : tests (heading' ++ crdts) ≡ allGrants far (granted s d c)
+  unfolding granted allGrants
+  grants-tests =
+      ap (λ (l : List Check). grantChecks far (headerGrant fm c) ++ l)
+      (crdt-tests far cell 12 0 ∙ ap (λ (l : List (List ℕ)). allGrants far (grantsIn l)) (sym begun-as))
+
+  rest-tests : tests (payments ++ (heading' ++ (crdts ++ (helds ++ rooms))))
+      ≡ allMessages own (begun s d c) ++ (allGrants far (granted s d c) ++ (heldChecks s d (begun s d c) 14 0 ++ roomChecks s (opposite d) (granted s d c) 14 0))
+  rest-tests =
+      tests-append payments (heading' ++ (crdts ++ (helds ++ rooms)))
+      ∙ ap (λ (l : List Check). l ++ tests (heading' ++ (crdts ++ (helds ++ rooms)))) (message-tests own cell 12 0 ∙ ap (allMessages own) (sym begun-as))
+      ∙ ap (λ (l : List Check). allMessages own (begun s d c) ++ l)
+      (tests-append (heading' ++ crdts) (helds ++ rooms)
+      ∙ ap (λ (l : List Check). l ++ tests (helds ++ rooms)) grants-tests
+      ∙ ap (λ (l : List Check). allGrants far (granted s d c) ++ l)
+      (tests-append helds rooms
+      ∙ ap (λ (l : List Check). l ++ tests rooms) (tests-ranked (heldChecks s d (begun s d c) 14 0))
+      ∙ ap (λ (l : List Check). heldChecks s d (begun s d c) 14 0 ++ l) (tests-ranked (roomChecks s (opposite d) (granted s d c) 14 0))))
+
+  sites-tests : tests sites ≡ auditChecks s d c
+  unfolding auditChecks stateChecks
+  sites-tests =
+      ap (λ (l : List Check). check (ltb d 2 && ledgerOk s) InvalidState 0 ∷ check (eqb (length c) 256) ContainerLength 0 ∷ l)
+      (tests-append (containerSites fm m c) (payments ++ (heading' ++ (crdts ++ (helds ++ rooms))))
+      ∙ ap (λ (l : List Check). l ++ tests (payments ++ (heading' ++ (crdts ++ (helds ++ rooms))))) (tests-ranked (stateChecks (readerOf s d) c))
+      ∙ ap (λ (l : List Check). stateChecks (readerOf s d) c ++ l) rest-tests)
+
+  sites-rise : Rises 0 sites 800
+  sites-rise = (
+    omega arith,
+    (
+      omega arith,
+      rises-from 3 4 (containerSites fm m c ++ (payments ++ (heading' ++ (crdts ++ (helds ++ rooms))))) 800 (omega arith)
+          (rises-append 4 (containerSites fm m c) 500 (payments ++ (heading' ++ (crdts ++ (helds ++ rooms)))) 800 (container-rises fm m c)
+          (rises-append 500 payments 536 (heading' ++ (crdts ++ (helds ++ rooms))) 800 (messages-rise own cell 12 0)
+          (rises-append 536 heading' 550 (crdts ++ (helds ++ rooms)) 800 (omega arith, (omega arith, omega arith))
+          (rises-append 550 crdts 600 (helds ++ rooms) 800 (rises-to 550 crdts 574 600 (omega arith) (crdts-rise far cell 12 0))
+          (rises-append 600 helds 700 rooms 800 (rises-to 600 helds 614 700 (omega arith) (held-rise s d (begun s d c) 14 0))
+          (rises-to 700 rooms 714 800 (omega arith) (room-rise s (opposite d) (granted s d c) 14 0))))))),
+    ),
+  )
+
+  misc-so : (e : Cell) → T (e .starts && isMisc (e .bytes) crdtGrant) → T (e .starts) × (typeOf (e .bytes) ≡ miscU) × (opOf (e .bytes) ≡ crdtGrant)
+  misc-so e h =
+      let t = T-true (e .starts && isMisc (e .bytes) crdtGrant) h in
+      let w = and-right (e .starts) (isMisc (e .bytes) crdtGrant) t in (
+        true-T (e .starts) (and-left (e .starts) (isMisc (e .bytes) crdtGrant) t),
+        eqb-true (typeOf (e .bytes)) miscU (and-left (eqb (typeOf (e .bytes)) miscU) (eqb (opOf (e .bytes)) crdtGrant) w),
+        eqb-true (opOf (e .bytes)) crdtGrant (and-right (eqb (typeOf (e .bytes)) miscU) (eqb (opOf (e .bytes)) crdtGrant) w),
+      )
+
+  so-misc : (e : Cell) → T (e .starts) → typeOf (e .bytes) ≡ miscU → opOf (e .bytes) ≡ crdtGrant → T (e .starts && isMisc (e .bytes) crdtGrant)
+  so-misc e a b f = true-T _ (and-both (e .starts) (isMisc (e .bytes) crdtGrant) (T-true (e .starts) a) (rw (eq-eqb (typeOf (e .bytes)) miscU b, eq-eqb (opOf (e .bytes)) crdtGrant f)))
+
+  sites-sound : Sounds Of sites
+  sites-sound = (
+    λ t. (0, refl, AuditCells.invalid (⊎-elim (λ a. inl (ltb-false d 2 a)) (λ b. inr b) (and-fails (ltb d 2) (ledgerOk s) t))),
+    (
+      λ t. (0, refl, AuditCells.size (eqb-false (length c) 256 t)),
+      sounds-append Of (containerSites fm m c) (payments ++ (heading' ++ (crdts ++ (helds ++ rooms)))) (container-sound fm m c Of (λ k p f. (p, refl, AuditCells.container f)))
+          (sounds-append Of payments (heading' ++ (crdts ++ (helds ++ rooms))) (messages-sound own cell Of (λ g u p b st f. (3 * g + u, omega arith, message g u p b st f)) 12 0 (omega arith))
+          (sounds-append Of heading' (crdts ++ (helds ++ rooms)) (grant-sounds far (headerGrant fm c) Of 540 (λ u p f. (40 + u, omega arith, heading u p f)))
+          (sounds-append Of crdts (helds ++ rooms) (crdts-sound far cell Of (λ g u p b st f. let w = misc-so (cell g) st in (50 + 2 * g + u, omega arith, granting g u p b (w .0) (w .1) (w .2) f)) 12 0 (omega arith))
+          (sounds-append Of helds rooms (held-sound s d (begun s d c) Of (λ p b h. (p, refl, over p b h)) 14 0 (omega arith))
+          (room-sound s (opposite d) (granted s d c) Of (λ p b h. (p, refl, full p b h)) 14 0 (omega arith)))))),
+    ),
+  )
+
+  -- where a part's faults stand among all
+  in-payments : (r : ℕ) (k : Cause) (p : ℕ) → Fails r k p payments → Fails r k p sites
+  in-payments r k p h = inr (inr (fails-back r k p (containerSites fm m c) _ (fails-front r k p payments (heading' ++ (crdts ++ (helds ++ rooms))) h)))
+
+  in-rest : (r : ℕ) (k : Cause) (p : ℕ) → Fails r k p (heading' ++ (crdts ++ (helds ++ rooms))) → Fails r k p sites
+  in-rest r k p h = inr (inr (fails-back r k p (containerSites fm m c) _ (fails-back r k p payments (heading' ++ (crdts ++ (helds ++ rooms))) h)))
+
+  sites-complete : (k : Cause) (t p : ℕ) → AuditCells s d c k t p → Fails (turnOf k t) k p sites
+  sites-complete k t p (AuditCells.invalid h) = inl (refl, fails-as _ _ _ (invalid-false h))
+    where
+      invalid-false : (2 ≤ d) ⊎ (ledgerOk s ≡ false) → (ltb d 2 && ledgerOk s) ≡ false
+      invalid-false (inl l) = fail-left (ltb d 2) (ledgerOk s) (le-ltb d 2 l)
+      invalid-false (inr e) = fail-right (ltb d 2) (ledgerOk s) e
+  sites-complete k t p (AuditCells.size e) = inr (inl (refl, fails-as _ _ _ (ne-eqb (length c) 256 e)))
+  sites-complete k t p (AuditCells.container f) =
+      inr (inr (fails-front _ _ _ (containerSites fm m c) (payments ++ (heading' ++ (crdts ++ (helds ++ rooms)))) (container-complete fm m c _ _ f)))
+  sites-complete k t p (message g u q b st f) =
+      let e : 500 + 3 * g + u ≡ 500 + (3 * g + u) = omega arith in
+      subst (λ (r : ℕ). Fails r MissingPool q sites) e (in-payments _ _ _ (message-fails own cell 12 0 g u q (omega arith) (omega arith) st f))
+  sites-complete k t p (heading u q f) =
+      let e : 540 + u ≡ 500 + (40 + u) = omega arith in
+      subst (λ (r : ℕ). Fails r MissingPool q sites) e (in-rest _ _ _ (fails-front (540 + u) MissingPool q heading' (crdts ++ (helds ++ rooms)) (grant-fails far (headerGrant fm c) 540 u q f)))
+  sites-complete k t p (granting g u q b st ty op f) =
+      let e : 550 + 2 * g + u ≡ 500 + (50 + 2 * g + u) = omega arith in
+      subst (λ (r : ℕ). Fails r MissingPool q sites) e
+      (in-rest _ _ _ (inr (inr (fails-front (550 + 2 * g + u) MissingPool q crdts (helds ++ rooms) (crdt-fails far cell 12 0 g u q (omega arith) (omega arith) (so-misc (cell g) st ty op) f)))))
+  sites-complete k t p (over q b h) =
+      in-rest _ _ _ (inr (inr (fails-back _ _ _ crdts (helds ++ rooms) (fails-front (600 + q) BegunOverGranted q helds rooms (held-fails s d (begun s d c) 14 0 q (omega arith) (omega arith) h)))))
+  sites-complete k t p (full q b h) =
+      in-rest _ _ _ (inr (inr (fails-back _ _ _ crdts (helds ++ rooms) (fails-back (700 + q) GrantedOverCapacity q helds rooms (room-fails s (opposite d) (granted s d c) 14 0 q (omega arith) (omega arith) h)))))
+
+  audit-lists : Lists Of (auditChecks s d c)
+  audit-lists = record {
+    sites = sites;
+    last = 800;
+    same = sites-tests;
+    rises = sites-rise;
+    sounds = sites-sound;
+    complete = λ r k p f. subst (λ (n : ℕ). Fails n k p sites) (f .1) (sites-complete k (f .0) p (f .2));
+  }
+
+  refused-as : (v : Verdict) (k : Cause) (p : ℕ) → (answerOf v ≡ answer.Refused k p) ↔ (v ≡ Faulty k p)
+  refused-as Sound k p = (λ e. let z : _≡_ {A = ℕ} 0 1 = cc in absurd (omega arith), λ e. let z : _≡_ {A = ℕ} 0 1 = cc in absurd (omega arith))
+  refused-as (Faulty a b) k p = (λ e. cc, λ e. cc)
+
+  accepted-as : (v : Verdict) → (answerOf v ≡ answer.Accepted) ↔ (v ≡ Sound)
+  accepted-as Sound = (λ e. refl, λ e. refl)
+  accepted-as (Faulty a b) = (λ e. let z : _≡_ {A = ℕ} 0 1 = cc in absurd (omega arith), λ e. let z : _≡_ {A = ℕ} 0 1 = cc in absurd (omega arith))
+
+  -- the audit refuses with a cause and a place exactly where it is the first fault
+  pub audit-first : (k : Cause) (p : ℕ) → (auditing s d c .answer ≡ answer.Refused k p) ↔ First Of k p
+  unfolding auditing
+  audit-first k p = chain (refused-as (firstFault (auditChecks s d c)) k p) (listed-first audit-lists k p)
+
+  -- and accepts exactly where there is none
+  pub audit-none : (auditing s d c .answer ≡ answer.Accepted) ↔ None Of
+  unfolding auditing
+  audit-none = chain (accepted-as (firstFault (auditChecks s d c))) (listed-none audit-lists)

@@ -1,0 +1,81 @@
+-- A verdict that is 19 where a test fails, and a new reader's and writer's, name what the table gives. Assumes nothing.
+use Prim.Native.Nat.{ℕ, _≤_}
+use mathlib.Core.Path.{_≡_, refl, sym, ap, _∙_, subst}
+use mathlib.Core.Bool.{Bool, true, false}
+use mathlib.Core.Logic.{⊎-elim, _↔_}
+use native.Mathlib.Omega.{arith}
+use lib.Dec.{ltb}
+use borrow.Author.Tests.{le-ltb, ltb-false}
+use Rattle.lists.specs.Pick.{pick}
+use Rattle.lists.proofs.Tests.{cases, not-true-false}
+use Rattle.cause.specs.Causes.{causeNumber}
+use Rattle.cause.specs.declared.Cause.{Cause}
+use Rattle.cause.specs.declared.Cause.the-variants.{InvalidState}
+use Rattle.cause.specs.declared.Verdict.{Verdict}
+use Rattle.cause.specs.declared.Verdict.the-variants.{Sound, Faulty}
+use Rattle.cause.proofs.CauseLaws.{same-number}
+use Rattle.reader.specs.Reading as reader
+use Rattle.writer.specs.Filling as writer
+use Rattle.demands.specs.Faults.{FormatFault, unknown}
+use Rattle.demands.specs.Order.{rank, Named, None}
+
+-- 19 at place 0 where a test fails
+abbrev verdictOf : Bool → Verdict
+verdictOf b = pick b Sound (Faulty InvalidState 0)
+
+module _ (b : Bool) (F : ℕ → ℕ → Type 0) (to : b ≡ false → F 19 0) (from : (j q : ℕ) → F j q → (j ≡ 19) × (q ≡ 0) × (b ≡ false)) where
+  failing : (k : Cause) (p : ℕ) → verdictOf b ≡ Faulty k p → b ≡ false
+  failing k p e = not-true-false b (λ t. clash (rw t at e))
+    where
+      clash : Sound ≡ Faulty k p → ⊥
+      clash f = let z : _≡_ {A = ℕ} 0 1 = cc in omega arith
+
+  pub verdict-refused : (k : Cause) (p : ℕ) → (verdictOf b ≡ Faulty k p) ↔ Named F k p
+  verdict-refused k p = (named, refused)
+    where
+      named : verdictOf b ≡ Faulty k p → Named F k p
+      named e = same (rw (failing k p e) at e)
+        where
+          least : (j q : ℕ) → F j q → 1 ≤ rank j q
+          least j q f = let w = from j q f in let r : rank j q ≡ rank 19 0 = ap (λ (i : ℕ). rank i q) (w .0) ∙ ap (rank 19) (w .1) in omega arith
+
+          same : Faulty InvalidState 0 ≡ Faulty k p → Named F k p
+          same f =
+              let x : InvalidState ≡ k = cc in
+              let y : 0 ≡ p = cc in
+              subst (λ (i : Cause). Named F i p) x (subst (Named F InvalidState) y (to (failing k p e), λ j q g l. let z = least j q g in omega arith))
+
+      refused : Named F k p → verdictOf b ≡ Faulty k p
+      refused w =
+          let f = from (causeNumber k) p (w .0) in
+          let x = same-number InvalidState k (sym (f .0)) in
+          rw (f .2) (ap (λ (i : Cause). Faulty i 0) x ∙ ap (Faulty k) (sym (f .1)))
+
+  pub verdict-accepted : (verdictOf b ≡ Sound) ↔ None F
+  verdict-accepted = (
+    λ e j q f. let w = from j q f in clash (rw (w .2) at e),
+    λ n. ⊎-elim (λ (t : b ≡ true). rw t) (λ (t : b ≡ false). absurd (n 19 0 (to t))) (cases b),
+  )
+    where
+      clash : Faulty InvalidState 0 ≡ Sound → ⊥
+      clash f = let z : _≡_ {A = ℕ} 0 1 = cc in omega arith
+
+-- ---- a format
+module _ (f : ℕ) where
+  format-row : ltb f 2 ≡ false → FormatFault f 19 0
+  format-row e = unknown (ltb-false f 2 e)
+
+  row-format : (j q : ℕ) → FormatFault f j q → (j ≡ 19) × (q ≡ 0) × (ltb f 2 ≡ false)
+  row-format j q (unknown l) = (refl, refl, le-ltb f 2 l)
+
+  pub reader-refused : (k : Cause) (p : ℕ) → (reader.opened f .verdict ≡ Faulty k p) ↔ Named (FormatFault f) k p
+  reader-refused k p = verdict-refused (ltb f 2) (FormatFault f) format-row row-format k p
+
+  pub reader-accepted : (reader.opened f .verdict ≡ Sound) ↔ None (FormatFault f)
+  reader-accepted = verdict-accepted (ltb f 2) (FormatFault f) format-row row-format
+
+  pub writer-refused : (k : Cause) (p : ℕ) → (writer.opened f .verdict ≡ Faulty k p) ↔ Named (FormatFault f) k p
+  writer-refused k p = verdict-refused (ltb f 2) (FormatFault f) format-row row-format k p
+
+  pub writer-accepted : (writer.opened f .verdict ≡ Sound) ↔ None (FormatFault f)
+  writer-accepted = verdict-accepted (ltb f 2) (FormatFault f) format-row row-format
