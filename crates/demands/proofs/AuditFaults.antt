@@ -5,7 +5,7 @@ use mathlib.Core.Bool.{Bool, true, false, _&&_, _||_, not}
 use mathlib.Core.List.{List, [], _∷_, _++_}
 use mathlib.Core.Logic.{_⊎_, inl, inr, ⊎-elim, _↔_}
 use native.Mathlib.Omega.{arith}
-use lib.ListN.{length, getD, take, drop}
+use lib.ListN.{length, getD}
 use lib.Dec.{T, eqb, ltb, leb}
 use borrow.Author.Tests.{le-ltb, lt-leb, eq-eqb, ne-eqb, ltb-false, leb-false, eqb-true, eqb-false}
 use Rattle.lists.specs.Pick.{pick}
@@ -15,14 +15,13 @@ use Rattle.cause.specs.declared.Cause.{Cause}
 use Rattle.cause.specs.declared.Cause.the-variants.{InvalidState, ContainerLength, MissingPool, BegunOverGranted, GrantedOverCapacity}
 use Rattle.cause.specs.declared.Verdict.{Verdict}
 use Rattle.cause.specs.declared.Verdict.the-variants.{Sound, Faulty}
-use Rattle.container.specs.Layout.{Format, formatOf, start}
+use Rattle.container.specs.Layout.{Format, formatOf}
 use Rattle.container.specs.Grants.{headerGrant}
 use Rattle.container.specs.declared.grant.Grant.{Grant}
 use Rattle.message.specs.Heads.{typeOf, opOf, classOf, isMisc, miscU, crdtGrant}
 use Rattle.message.specs.Charges.{sharedCrdt, resPlane}
-use Rattle.message.specs.HeadRules.{among}
 use Rattle.reader.specs.Cells.{Cell, startings}
-use Rattle.reader.specs.Keeps.{progress, cellOf}
+use Rattle.reader.specs.Keeps.{progress}
 use Rattle.reader.specs.Reading.{carried, stateChecks}
 use Rattle.reader.proofs.ProgressLaws.{listFrom, cells-of}
 use Rattle.ledger.specs.PoolRules.{grantIn, capacityOf}
@@ -31,6 +30,7 @@ use Rattle.ledger.specs.Audit.{receiverOf, readerOf, heldOf, openOf, ledgerOk, 
 use Rattle.ledger.specs.declared.receiver.Receiver.{Receiver}
 use Rattle.ledger.specs.declared.ledger.Ledger.{Ledger}
 use Rattle.ledger.specs.declared.ledger.Answer.the-variants as answer
+use Rattle.ledger.proofs.PaymentRuleLaws.{req-class, data-class, push-class}
 use Rattle.demands.specs.Faults.{PaymentFault, GrantFault, dedicated, push, dat0, dat1}
 use Rattle.demands.proofs.CellFaults.{turnOf, entryCell, AuditCells, message, heading, granting, over, full}
 use Rattle.cause.proofs.FirstLaws.{Site, tests, tests-append, Fails, fails-front, fails-back, Rises, rises-from, rises-to, rises-append, Sounds, sounds-append, First, None, Lists, listed-first, listed-none}
@@ -59,36 +59,6 @@ module _ (x : List Site) where
   only-fails false r k p t h = absurd t
 
 -- ---- 14 of a message
--- no type of a list is over 10
-abbrev Types : List ℕ → Type 0
-Types [] = Unit {0}
-Types (a ∷ ts) = (a ≤ 10) × Types ts
-
--- a type over 10 is none of a list of types
-none-over : (t : ℕ) → 10 < t → (ts : List ℕ) → Types ts → among ts t ≡ false
-none-over t h [] k = refl
-none-over t h (a ∷ ts) k = let b = k .0 in rw (ne-eqb t a (λ e. omega arith)) (none-over t h ts (k .1))
-
--- what pays, by type
-pays-types : (t : ℕ) → (paysReq (classOf t) ≡ among (1 ∷ 2 ∷ 8 ∷ 9 ∷ []) t) × (paysData (classOf t) ≡ among (6 ∷ 7 ∷ []) t) × (paysPush (classOf t) ≡ among (8 ∷ 9 ∷ []) t)
-pays-types zero = (refl, refl, refl)
-pays-types (suc zero) = (refl, refl, refl)
-pays-types (suc (suc zero)) = (refl, refl, refl)
-pays-types (suc (suc (suc zero))) = (refl, refl, refl)
-pays-types (suc (suc (suc (suc zero)))) = (refl, refl, refl)
-pays-types (suc (suc (suc (suc (suc zero))))) = (refl, refl, refl)
-pays-types (suc (suc (suc (suc (suc (suc zero)))))) = (refl, refl, refl)
-pays-types (suc (suc (suc (suc (suc (suc (suc zero))))))) = (refl, refl, refl)
-pays-types (suc (suc (suc (suc (suc (suc (suc (suc zero)))))))) = (refl, refl, refl)
-pays-types (suc (suc (suc (suc (suc (suc (suc (suc (suc zero))))))))) = (refl, refl, refl)
-pays-types (suc (suc (suc (suc (suc (suc (suc (suc (suc (suc zero)))))))))) = (refl, refl, refl)
-pays-types (suc (suc (suc (suc (suc (suc (suc (suc (suc (suc (suc t))))))))))) =
-    let l : 10 < suc (suc (suc (suc (suc (suc (suc (suc (suc (suc (suc t)))))))))) = omega arith in (
-      sym (none-over (suc (suc (suc (suc (suc (suc (suc (suc (suc (suc (suc t))))))))))) l (1 ∷ 2 ∷ 8 ∷ 9 ∷ []) (omega arith, (omega arith, (omega arith, (omega arith, tt))))),
-      sym (none-over (suc (suc (suc (suc (suc (suc (suc (suc (suc (suc (suc t))))))))))) l (6 ∷ 7 ∷ []) (omega arith, (omega arith, tt))),
-      sym (none-over (suc (suc (suc (suc (suc (suc (suc (suc (suc (suc (suc t))))))))))) l (8 ∷ 9 ∷ []) (omega arith, (omega arith, tt))),
-    )
-
 module _ (r : Receiver) (m : List ℕ) where
   abbrev t : ℕ
   t = typeOf m
@@ -107,16 +77,16 @@ module _ (r : Receiver) (m : List ℕ) where
   plane-fault : (not (paysReq (classOf t)) || ltb (resPlane (getD m 0 0)) (r .planes)) ≡ false → PaymentFault r m 0 (1 + resPlane (getD m 0 0))
   plane-fault e =
       let w = guard-fails (paysReq (classOf t)) (ltb (resPlane (getD m 0 0)) (r .planes)) e in
-      PaymentFault.bad-plane (subst T (pays-types t .0) (w .0)) (ltb-false (resPlane (getD m 0 0)) (r .planes) (w .1))
+      PaymentFault.bad-plane (subst T (sym (req-class m)) (w .0)) (ltb-false (resPlane (getD m 0 0)) (r .planes) (w .1))
 
   data-fault : (not (paysData (classOf t)) || (sharedCrdt (getD m 0 0) || hasPool r 12)) ≡ false → PaymentFault r m 1 12
   data-fault e =
       let w = guard-fails (paysData (classOf t)) (sharedCrdt (getD m 0 0) || hasPool r 12) e in
       let v = or-fails (sharedCrdt (getD m 0 0)) (hasPool r 12) (w .1) in
-      dedicated (subst T (pays-types t .1) (w .0)) (eqb-false (getD m 0 0 / 16 % 2) 1 (v .0)) (v .1)
+      dedicated (subst T (sym (data-class m)) (w .0)) (eqb-false (getD m 0 0 / 16 % 2) 1 (v .0)) (v .1)
 
   push-fault : (not (paysPush (classOf t)) || (r .push && (eqb (getD m 1 0 % 2) 1 || hasPool r 13))) ≡ false → PaymentFault r m 2 13
-  push-fault e = push (subst T (pays-types t .2) (w .0)) (⊎-elim (λ a. inl a) missing (and-fails (r .push) (eqb (getD m 1 0 % 2) 1 || hasPool r 13) (w .1)))
+  push-fault e = push (subst T (sym (push-class m)) (w .0)) (⊎-elim (λ a. inl a) missing (and-fails (r .push) (eqb (getD m 1 0 % 2) 1 || hasPool r 13) (w .1)))
     where
       w : T (paysPush (classOf t)) × ((r .push && (eqb (getD m 1 0 % 2) 1 || hasPool r 13)) ≡ false)
       w = guard-fails (paysPush (classOf t)) (r .push && (eqb (getD m 1 0 % 2) 1 || hasPool r 13)) e
@@ -131,13 +101,13 @@ module _ (r : Receiver) (m : List ℕ) where
 
   payment-fails : (n u p : ℕ) → PaymentFault r m u p → Fails (n + u) MissingPool p (paymentSites n)
   payment-fails n u p (PaymentFault.bad-plane k l) =
-      inl (refl, fails-as _ _ _ (fail-guard (paysReq (classOf t)) _ (subst T (sym (pays-types t .0)) k) (le-ltb (resPlane (getD m 0 0)) (r .planes) l)))
+      inl (refl, fails-as _ _ _ (fail-guard (paysReq (classOf t)) _ (subst T (req-class m) k) (le-ltb (resPlane (getD m 0 0)) (r .planes) l)))
   payment-fails n u p (dedicated k s h) =
-      inr (inl (refl, fails-as _ _ _ (fail-guard (paysData (classOf t)) _ (subst T (sym (pays-types t .1)) k) (none (sharedCrdt (getD m 0 0)) (r .push) (ne-eqb (getD m 0 0 / 16 % 2) 1 s) h))))
+      inr (inl (refl, fails-as _ _ _ (fail-guard (paysData (classOf t)) _ (subst T (data-class m) k) (none (sharedCrdt (getD m 0 0)) (r .push) (ne-eqb (getD m 0 0 / 16 % 2) 1 s) h))))
     where
       none : (a b : Bool) → a ≡ false → b ≡ false → (a || b) ≡ false
       none a b e f = rw (e, f)
-  payment-fails n u p (push k h) = inr (inr (inl (refl, fails-as _ _ _ (fail-guard (paysPush (classOf t)) _ (subst T (sym (pays-types t .2)) k) (missing h)))))
+  payment-fails n u p (push k h) = inr (inr (inl (refl, fails-as _ _ _ (fail-guard (paysPush (classOf t)) _ (subst T (push-class m) k) (missing h)))))
     where
       missing : (r .push ≡ false) ⊎ ((getD m 1 0 % 2 ≡ 1 → ⊥) × (r .planes < 2)) → (r .push && (eqb (getD m 1 0 % 2) 1 || (r .push && leb 2 (r .planes)))) ≡ false
       missing (inl e) = rw e

@@ -1,12 +1,12 @@
 -- The audit names what the table gives. Assumes nothing.
-use Prim.Native.Nat.{ℕ, zero, suc, _+_, _*_, _≤_, _<_}
+use Prim.Native.Nat.{ℕ, zero, suc, _≤_, _<_}
 use mathlib.Core.Path.{_≡_, refl, ap, _∙_}
-use mathlib.Core.Bool.{true, false}
+use mathlib.Core.Bool.{true}
 use mathlib.Core.List.{List}
-use mathlib.Core.Logic.{_⊎_, inl, inr, ⊎-elim, _↔_}
+use mathlib.Core.Logic.{inl, inr, ⊎-elim, _↔_}
 use native.Mathlib.Omega.{arith}
 use lib.ListN.{length}
-use lib.Dec.{T, eqb}
+use lib.Dec.{eqb}
 use borrow.Author.Tests.{eqb-true, eqb-false}
 use Rattle.lists.proofs.Order.{lt-or-le}
 use Rattle.lists.proofs.Tests.{cases, and-left, and-right, never-both, not-true-false}
@@ -17,14 +17,13 @@ use Rattle.container.specs.Layout.{Format, formatOf}
 use Rattle.container.specs.Lawful.{Lawful}
 use Rattle.container.proofs.Formats.{lawful-of}
 use Rattle.reader.specs.Keeps.{cellOf}
-use Rattle.reader.specs.Reading.{readerOk, carryOk, carried}
-use Rattle.reader.specs.Rules.{Starts}
+use Rattle.reader.specs.Reading.{carryOk, carried}
 use Rattle.reader.proofs.CarryLaws.{reader-ok}
 use Rattle.ledger.specs.Audit.{readerOf, directionOk, ledgerOk, auditing}
-use Rattle.ledger.specs.ValidLedger.{ValidLedger}
 use Rattle.ledger.specs.declared.ledger.Ledger.{Ledger}
 use Rattle.ledger.specs.declared.ledger.Answer.the-variants as answer
 use Rattle.ledger.proofs.ValidLaws.{direction-valid}
+use Rattle.ledger.proofs.ValidLedgerLaws.{ledger-exactly}
 use Rattle.demands.specs.Faults.{AuditFault}
 use Rattle.demands.specs.Order.{rank, NamedBy, NoneBy}
 use Rattle.demands.proofs.CellFaults.{turnOf, AuditCells}
@@ -33,7 +32,7 @@ use Rattle.demands.proofs.AuditFaults.{Turned, audit-first, audit-none}
 use Rattle.demands.proofs.NamedLaws.{NumberedBy, Clean, Same, first-named-by, none-named-by}
 use Rattle.demands.proofs.ContainerTable.{cells-late, rows-late, Before, row-of, of-row, starts-in, starts-cell}
 
-module _ (ledger-exactly : (s : Ledger) → (ledgerOk s ≡ true) ↔ ValidLedger s) (s : Ledger) (d : ℕ) (c : List ℕ) where
+module _ (s : Ledger) (d : ℕ) (c : List ℕ) where
   abbrev fm : Format
   fm = formatOf (s .format)
 

@@ -8,14 +8,14 @@ use native.Mathlib.Omega.{arith}
 use lib.ListN.{length, take, drop, length-append, length-take, length-drop, take-append-drop}
 use lib.Seq.{drop-drop, drop-at, drop-append-seam}
 use lib.Dec.{eqb, ltb, leb}
-use borrow.Author.Tests.{le-ltb, lt-leb, ne-eqb, ltb-true, ltb-false, leb-false, eqb-false}
+use borrow.Author.Tests.{le-ltb, lt-leb, ne-eqb, ltb-false, leb-false, eqb-false}
 use Rattle.lists.specs.Parts.{part, IsBytes}
 use Rattle.lists.proofs.Tests.{cases, T-true, true-T}
 use Rattle.lists.proofs.PartLaws.{bytes-drop}
 use Rattle.cause.specs.Checks.{Check, check, firstFault, orElse}
 use Rattle.cause.proofs.CheckLaws.{first-append}
 use Rattle.cause.specs.declared.Cause.{Cause}
-use Rattle.cause.specs.declared.Cause.the-variants.{TooLong, BrokenRecord}
+use Rattle.cause.specs.declared.Cause.the-variants.{BrokenRecord}
 use Rattle.cause.specs.declared.Verdict.{Verdict}
 use Rattle.cause.specs.declared.Verdict.the-variants.{Sound, Faulty}
 use Rattle.container.specs.Layout.{formatOf}

@@ -9,6 +9,7 @@ pub mod ReadTable
 pub mod FillTable
 pub mod AuditTable
 pub mod VerdictTable
+pub mod TableLaws
 pub mod Refusals
 pub mod Packing
 pub mod TapLaws

@@ -1,7 +1,6 @@
 -- "Causes and places" (document 01): the order of refusal, the fault that is named, and the kinds of places. A cause stands as the number
 -- of the table's first column.
 use Prim.Native.Nat.{ℕ, _+_, _*_, _<_}
-use mathlib.Core.Path.{_≡_}
 use mathlib.Core.List.{List, [], _∷_}
 use lib.ListN.{getD}
 use Rattle.cause.specs.Causes.{causeNumber}

@@ -17,7 +17,7 @@ use Rattle.message.specs.HeadRules.{byte, type, among}
 use Rattle.message.specs.Charges.{charges, sharedCrdt, reqPool, datPool, pushPool, oneOf, paidBy, listed}
 use Rattle.message.specs.declared.heads.Class.{Class}
 use Rattle.message.specs.declared.heads.Class.the-variants.{Unknown, Request, Response, Snoop, Data, RequestData, Misc}
-use Rattle.message.proofs.HeadRuleLaws.{guarded}
+use Rattle.message.proofs.HeadRuleLaws.{each-of, guarded}
 use Rattle.ledger.specs.Pools.{hasPool, paysReq, paysData, paysPush, messageChecks, chargedTo}
 use Rattle.ledger.specs.PoolRules.{Exists, Shared, plane, SharedPush, PaysReq, IsData, IsPush, Pays, PaysRight}
 use Rattle.ledger.specs.PoolRules.Exists.{always, req-plane}
@@ -25,7 +25,7 @@ use Rattle.ledger.specs.PoolRules.Pays.{shared-req, req, rsp, snp, share
 use Rattle.ledger.specs.Audit.{passes}
 use Rattle.ledger.specs.declared.receiver.Receiver.{Receiver}
 use Rattle.ledger.proofs.TypeLaws.{amount}
-use Rattle.ledger.proofs.PoolRuleLaws.{by-test, passes-exactly, each-of, exists-exactly}
+use Rattle.ledger.proofs.PoolRuleLaws.{by-test, passes-exactly, exists-exactly}
 
 -- ---- what messages pay
 
@@ -101,13 +101,13 @@ by-class : (m l : List ℕ) (f : Class → Bool) → T (below 16 (λ t. agrees (
 by-class m l f h = same-tests (among l (type m)) (f (classOf (type m))) (below-at 16 (λ t. agrees (among l t) (f (classOf t))) h (type m) (omega arith))
 
 module _ (m : List ℕ) where
-  req-class : among (1 ∷ 2 ∷ 8 ∷ 9 ∷ []) (type m) ≡ paysReq (classOf (type m))
+  pub req-class : among (1 ∷ 2 ∷ 8 ∷ 9 ∷ []) (type m) ≡ paysReq (classOf (type m))
   req-class = by-class m (1 ∷ 2 ∷ 8 ∷ 9 ∷ []) paysReq tt
 
-  data-class : among (6 ∷ 7 ∷ []) (type m) ≡ paysData (classOf (type m))
+  pub data-class : among (6 ∷ 7 ∷ []) (type m) ≡ paysData (classOf (type m))
   data-class = by-class m (6 ∷ 7 ∷ []) paysData tt
 
-  push-class : among (8 ∷ 9 ∷ []) (type m) ≡ paysPush (classOf (type m))
+  pub push-class : among (8 ∷ 9 ∷ []) (type m) ≡ paysPush (classOf (type m))
   push-class = by-class m (8 ∷ 9 ∷ []) paysPush tt
 
   rsp-class : among (3 ∷ 4 ∷ []) (type m) ≡ eqb (amount 1 (classOf (type m))) 1

@@ -5,16 +5,17 @@ use mathlib.Core.Bool.{Bool, true, false, _&&_, _||_}
 use mathlib.Core.List.{List, [], _∷_}
 use mathlib.Core.Logic.{⊎-elim, _↔_}
 use native.Mathlib.Omega.{arith}
-use lib.Dec.{T, eqb, ltb, leb, eqb→eq}
+use lib.Dec.{T, eqb, ltb, leb}
 use borrow.Author.Tests.{ltb-true, leb-true, eqb-true, le-leb, eq-eqb}
 use Rattle.lists.specs.Pick.{pick}
-use Rattle.lists.proofs.Tables.{below, below-at}
+use Rattle.lists.proofs.Tables.{below-at}
 use Rattle.lists.proofs.Tests.{cases, never-both, T-true, and-left, and-right, and-both, or-cases}
 use Rattle.cause.specs.Checks.{Check, Pass, firstFault}
 use Rattle.cause.specs.declared.Verdict.{Verdict}
 use Rattle.cause.specs.declared.Verdict.the-variants.{Sound, Faulty}
 use Rattle.cause.proofs.CheckLaws.{sound-pass, pass-sound}
 use Rattle.message.specs.HeadRules.{among}
+use Rattle.message.proofs.HeadRuleLaws.{each-of}
 use Rattle.ledger.specs.Pools.{hasPool, capacityOk, capacitiesOk, receiverOk}
 use Rattle.ledger.specs.PoolRules.{Exists, ValidReceiver, capacityOf}
 use Rattle.ledger.specs.PoolRules.Exists.{always, req-plane, first, second}
@@ -34,16 +35,6 @@ passes-exactly l = (λ e. sound-pass l (sound (firstFault l) e), λ h. rw (pass-
     sound : (v : Verdict) → passes v ≡ true → v ≡ Sound
     sound Sound e = refl
     sound (Faulty k p) e = absurd (never-both refl e)
-
--- what holds of each of a list holds of one that is among it
-abbrev pub Each : (ℕ → Type 0) → List ℕ → Type 0
-Each P [] = Unit {0}
-Each P (a ∷ l) = P a × Each P l
-
-pub each-of : (P : ℕ → Type 0) (l : List ℕ) (t : ℕ) → Each P l → T (among l t) → P t
-each-of P [] t h x = absurd x
-each-of P (a ∷ l) t h x =
-    ⊎-elim (λ (y : T (eqb t a)). subst P (sym (eqb→eq t a y)) (h .0)) (λ (y : T (among l t)). each-of P l t (h .1) y) (or-cases (eqb t a) (among l t) x)
 
 -- ---- the pools of a receiver
 module _ (r : Receiver) where

@@ -9,5 +9,3 @@ pub mod Log
 pub mod Stream
 pub mod Cutting
 pub mod Calls
-pub mod PoolRules
-pub mod ValidLedger

@@ -10,13 +10,23 @@ use lib.Seq.{getD-drop, getD-take}
 use lib.Dec.{T, eqb, ltb, leb, eqb→eq, ltb→lt, lt→ltb, leb→le}
 use borrow.Author.Tests.{lt-ltb, le-leb, eq-eqb, ltb-true}
 use Rattle.lists.specs.Parts.{part, zeros}
-use Rattle.lists.proofs.Tests.{T-true, true-T, T-left, T-right, and-left, and-right, and-both}
+use Rattle.lists.proofs.Tests.{T-true, true-T, T-left, T-right, and-left, and-right, and-both, or-cases}
 use Rattle.lists.proofs.Order.{lt-or-le}
 use Rattle.lists.proofs.ZeroLaws.{zeros-at, at-zeros}
 use Rattle.container.specs.Grants.{formOk}
 use Rattle.message.specs.Heads.{typeOf, opOf, sizeBy, msgSize, isMisc, flagBound, flagsOk, pushBy, pushOk, miscBy, activationBy, activationOk, grantBy, grantOk, wellHeaded}
 use Rattle.message.specs.HeadRules.{byte, Row, Bytes, Misc, among, RightHead}
 use Rattle.message.specs.HeadRules.Row.{ReqS, ReqL, Resp, Resp2, Snoop, DataS, DataL, WrReqDataS, WrReqDataL, LinkStatus, Activation, CrdtGrant, Connect, Property}
+
+-- what holds of each of a list holds of one that is among it
+abbrev pub Each : (ℕ → Type 0) → List ℕ → Type 0
+Each P [] = Unit {0}
+Each P (a ∷ l) = P a × Each P l
+
+pub each-of : (P : ℕ → Type 0) (l : List ℕ) (t : ℕ) → Each P l → T (among l t) → P t
+each-of P [] t h x = absurd x
+each-of P (a ∷ l) t h x =
+    ⊎-elim (λ (y : T (eqb t a)). subst P (sym (eqb→eq t a y)) (h .0)) (λ (y : T (among l t)). each-of P l t (h .1) y) (or-cases (eqb t a) (among l t) x)
 
 -- ---- the table
 pub row-size : {t o n : ℕ} → Row t o n → sizeBy t o ≡ n

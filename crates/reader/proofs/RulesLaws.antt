@@ -76,10 +76,10 @@ both-pick true t = refl
 both-pick false t = refl
 
 module _ (fm : Format) (law : Lawful fm) (m c : List ℕ) (n256 : length c ≡ 256) (valid : carryOk m ≡ true) where
-  pub starts-to : (g : ℕ) → Starts fm c g → T (bit (msgStart fm c) g)
+  starts-to : (g : ℕ) → Starts fm c g → T (bit (msgStart fm c) g)
   starts-to g s = true-T (bit (msgStart fm c) g) (eq-eqb (startBit fm c g) 1 s)
 
-  pub starts-of : (g : ℕ) → T (bit (msgStart fm c) g) → Starts fm c g
+  starts-of : (g : ℕ) → T (bit (msgStart fm c) g) → Starts fm c g
   starts-of g t = eqb-true (startBit fm c g) 1 (T-true (bit (msgStart fm c) g) t)
 
   -- ---- a granule
@@ -100,7 +100,7 @@ module _ (fm : Format) (law : Lawful fm) (m c : List ℕ) (n256 : length c ≡ 2
     T-goes t = on-goes fm law m c n256 valid g p b f (T-true on t)
 
     -- a granule is populated exactly where its cell is
-    pub populated-to : Populated fm m c g → T (populated e)
+    populated-to : Populated fm m c g → T (populated e)
     populated-to h = ⊎-elim (λ (s : Starts fm c g). right on (bit (msgStart fm c) g) (starts-to g s)) (λ v. left on (bit (msgStart fm c) g) (goes-T (v .0) (v .1) (v .2))) h
       where
         left : (a d : Bool) → T a → T (a || d)
@@ -111,7 +111,7 @@ module _ (fm : Format) (law : Lawful fm) (m c : List ℕ) (n256 : length c ≡ 2
         right true d t = tt
         right false d t = t
 
-    pub populated-of : T (populated e) → Populated fm m c g
+    populated-of : T (populated e) → Populated fm m c g
     populated-of t = ⊎-elim (λ (a : T on). inr (T-goes a)) (λ (s : T (bit (msgStart fm c) g)). inl (starts-of g s)) (or-cases on (bit (msgStart fm c) g) t)
 
     not-on : (T on → ⊥) → on ≡ false

@@ -1,18 +1,20 @@
 -- A writer is valid in the paper's words exactly where the test holds. Assumes nothing.
-use Prim.Native.Nat.{ℕ, zero, suc, _+_, _-_, _*_, _/_, _%_, _≤_}
-use mathlib.Core.Path.{_≡_, sym, ap, _∙_, subst}
-use mathlib.Core.Bool.{true, _&&_}
+use Prim.Native.Nat.{ℕ, _+_, _-_, _%_, _≤_}
+use mathlib.Core.Path.{_≡_, sym, ap, _∙_}
+use mathlib.Core.Bool.{true, _&&_, _||_, not}
 use mathlib.Core.List.{List, [], _∷_}
-use mathlib.Core.Logic.{⊎-elim, _↔_}
+use mathlib.Core.Logic.{_↔_}
 use native.Mathlib.Omega.{arith}
 use lib.ListN.{getD, drop}
 use lib.Seq.{getD-drop}
-use lib.Dec.{T, eqb, ltb, leb, eqb→eq}
+use lib.Dec.{T, eqb, ltb, leb}
 use borrow.Author.Tests.{lt-ltb, le-leb, eq-eqb}
 use Rattle.lists.specs.Parts.{zeros}
-use Rattle.lists.proofs.Tests.{and-right, and-both, or-cases}
+use Rattle.lists.proofs.Tables.{below-at}
+use Rattle.lists.proofs.Tests.{T-true, true-T, and-right, and-both}
 use Rattle.lists.proofs.ZeroLaws.{zeros-at, at-zeros}
 use Rattle.message.specs.HeadRules.{byte, among}
+use Rattle.message.proofs.HeadRuleLaws.{each-of, guarded}
 use Rattle.writer.specs.Filling.{writerOk}
 use Rattle.writer.specs.ValidWriter.{ValidWriter}
 use Rattle.writer.specs.declared.writer.Writer.{Writer}
@@ -22,29 +24,10 @@ use Rattle.writer.proofs.StateCases.{writer-ok}
 abbrev lengths : List ℕ
 lengths = 0 ∷ 20 ∷ 40 ∷ 60 ∷ 80 ∷ 100 ∷ []
 
--- what holds of each of a list holds of one of them
-module _ (P : ℕ → Type 0) (t : ℕ) where
-  abbrev Each : List ℕ → Type 0
-  Each [] = Unit {0}
-  Each (a ∷ l) = P a × Each l
-
-  one-of : (l : List ℕ) → Each l → T (among l t) → P t
-  one-of [] h x = absurd x
-  one-of (a ∷ l) h x = ⊎-elim (λ (y : T (eqb t a)). subst P (sym (eqb→eq t a y)) (h .0)) (λ y. one-of l (h .1) y) (or-cases (eqb t a) (among l t) x)
-
-twenties : (k : ℕ) → k ≤ 5 → T (among lengths (20 * k))
-twenties zero h = tt
-twenties (suc zero) h = tt
-twenties (suc (suc zero)) h = tt
-twenties (suc (suc (suc zero))) h = tt
-twenties (suc (suc (suc (suc zero)))) h = tt
-twenties (suc (suc (suc (suc (suc zero))))) h = tt
-twenties (suc (suc (suc (suc (suc (suc k)))))) h = absurd (omega arith)
-
 length-exactly : (n : ℕ) → ((n ≤ 100) × (n % 20 ≡ 0)) ↔ T (among lengths n)
 length-exactly n = (
-  λ h. let a = h .0 in let b = h .1 in let e : 20 * (n / 20) ≡ n = omega arith in subst (λ (z : ℕ). T (among lengths z)) e (twenties (n / 20) (omega arith)),
-  one-of (λ z. (z ≤ 100) × (z % 20 ≡ 0)) n lengths
+  λ h. let a = h .0 in guarded (eqb (n % 20) 0) (among lengths n) .0 (T-true _ (below-at 101 (λ k. not (eqb (k % 20) 0) || among lengths k) tt n (omega arith))) (true-T (eqb (n % 20) 0) (eq-eqb (n % 20) 0 (h .1))),
+  each-of (λ k. (k ≤ 100) × (k % 20 ≡ 0)) lengths n
       ((omega arith, omega arith), ((omega arith, omega arith), ((omega arith, omega arith), ((omega arith, omega arith), ((omega arith, omega arith), ((omega arith, omega arith), tt)))))),
 )
 

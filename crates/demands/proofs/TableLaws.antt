@@ -1,0 +1,24 @@
+-- The table of causes holds of every entry. Assumes nothing.
+use Rattle.demands.specs.Demand1.{Table}
+use Rattle.demands.proofs.ReadTable.{read-refused, read-accepted, judge-refused, judge-accepted}
+use Rattle.demands.proofs.AuditTable.{audit-refused, audit-accepted}
+use Rattle.demands.proofs.FillTable.{fill-refused, fill-accepted, list-refused, list-accepted}
+use Rattle.demands.proofs.VerdictTable.{reader-refused, reader-accepted, writer-refused, writer-accepted}
+
+pub table : Table
+table = record {
+  read-refused = read-refused;
+  read-accepted = read-accepted;
+  judge-refused = judge-refused;
+  judge-accepted = judge-accepted;
+  audit-refused = audit-refused;
+  audit-accepted = audit-accepted;
+  fill-refused = fill-refused;
+  fill-accepted = fill-accepted;
+  list-refused = list-refused;
+  list-accepted = list-accepted;
+  reader-refused = reader-refused;
+  reader-accepted = reader-accepted;
+  writer-refused = writer-refused;
+  writer-accepted = writer-accepted;
+}
