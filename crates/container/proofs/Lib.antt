@@ -1,3 +1,4 @@
 pub mod Formats
 pub mod ZeroTest
 pub mod FrontLaws
+pub mod TableLaws

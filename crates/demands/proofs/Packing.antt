@@ -1,19 +1,14 @@
 -- Demand 2 holds. Assumes nothing.
 use Prim.Native.Nat.{ℕ}
-use mathlib.Core.Path.{_≡_, refl, sym, ap}
+use mathlib.Core.Path.{_≡_, refl, sym}
 use mathlib.Core.List.{List}
 use lib.ListN.{length}
 use Rattle.container.specs.Layout.{formatOf}
+use Rattle.container.proofs.TableLaws.{table}
 use Rattle.container.specs.declared.grant.Grant.{Grant}
 use Rattle.message.proofs.HeadLaws.{is-message}
 use Rattle.message.proofs.KindLaws.{pays-charged}
-use Rattle.record.specs.Records.{recordsOf}
-use Rattle.reader.specs.Keeps.{endedTo}
-use Rattle.reader.specs.Reading.{carried, records}
-use Rattle.reader.specs.declared.reader.Reader.{Reader}
-use Rattle.reader.proofs.ProgressLaws.{endings-of}
-use Rattle.reader.proofs.ReadLaws.{read-exactly}
-use Rattle.reader.proofs.NextEnds.{carried-ends}
+use Rattle.reader.proofs.ReadRules.{state-exactly, read-rules, hands-out, carried-ends}
 use Rattle.writer.specs.Plan.{plan, cursorOf}
 use Rattle.writer.specs.Laying.{filled, owesAfter, usedOf}
 use Rattle.writer.specs.Filling.{tailOf, fillFault, filling, fillBytes}
@@ -25,11 +20,6 @@ use Rattle.writer.proofs.LegalLaws.{plan-legal, plan-beneath}
 use Rattle.writer.proofs.OneWayLaws.{one-way-exactly}
 use Rattle.writer.proofs.Return.{out-so-far, list-returned}
 use Rattle.demands.specs.Demand2.{Demand2, Laid}
-
--- the records of a container are those of the messages that end in it, by their last granules
-in-order : (s : Reader) (c : List ℕ) → records s c ≡ recordsOf (endedTo (formatOf (s .format)) c (carried s) 12)
-unfolding records
-in-order s c = ap recordsOf (endings-of (formatOf (s .format)) c (carried s))
 
 one-way : (w : Writer) (l : List ℕ) (n : Grant) (c : List ℕ) (u : ℕ) → filling w l n (length c) .answer ≡ Filled u → Laid w l n c u
 unfolding filling fillBytes filled
@@ -51,8 +41,10 @@ one-way w l n c u e =
 
 pub demand2 : Demand2
 demand2 = record {
-  read-exactly = read-exactly;
-  in-order = in-order;
+  table = table;
+  read-exactly = λ s c room valid size large. read-rules s c valid size room large;
+  valid-exactly = state-exactly;
+  in-order = hands-out;
   carried-ends = carried-ends;
   one-way = one-way;
   returned = list-returned;

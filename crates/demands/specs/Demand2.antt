@@ -7,13 +7,16 @@ use mathlib.Core.Logic.{_↔_}
 use lib.ListN.{length}
 use Rattle.lists.specs.Parts.{IsBytes}
 use Rattle.container.specs.Layout.{formatOf, wide}
+use Rattle.container.specs.Table.{Table}
 use Rattle.container.specs.Grants.{headerGrant}
 use Rattle.container.specs.declared.grant.Grant.{Grant}
 use Rattle.message.specs.Heads.{isMessage}
 use Rattle.message.specs.Kinds.{PaysAsCharged}
 use Rattle.record.specs.Records.{recordsOf, AllMessages}
 use Rattle.reader.specs.Cells.{Cell}
-use Rattle.reader.specs.Keeps.{Keeps, endedTo, CarryEnds}
+use Rattle.reader.specs.Rules.{Rules}
+use Rattle.reader.specs.Completion.{CarryEnds}
+use Rattle.reader.specs.ValidState.{ValidState, HandsOut}
 use Rattle.reader.specs.Reading.{readerOk, carried, records, reading}
 use Rattle.reader.specs.declared.reader.Reader.{Reader}
 use Rattle.reader.specs.declared.reader.Answer.the-variants.{Done}
@@ -39,16 +42,20 @@ pub record Laid (w : Writer) (l : List ℕ) (n : Grant) (c : List ℕ) (u : ℕ)
   pub next : filling w l n (length c) .writer ≡ writerWith (w .format) owes
 
 pub record Demand2 : Type 0 where
+  -- document 01, "Container bytes": the granules and the headers lie where the table says
+  pub table : Table
   -- "From a valid state and with the room our paper names, a container of either format is read exactly when it keeps the CHI C2C
   -- packing rules as our paper completes them"
-  pub read-exactly : (s : Reader) (c : List ℕ) (room : ℕ) → readerOk s ≡ true → length c ≡ 256 → 352 ≤ room
-      → (reading s c room .answer ≡ Done (length (records s c)) (headerGrant (formatOf (s .format)) c)) ↔ Keeps (formatOf (s .format)) (carried s) c
+  pub read-exactly : (s : Reader) (c : List ℕ) (room : ℕ) → ValidState s → length c ≡ 256 → 352 ≤ room
+      → (reading s c room .answer ≡ Done (length (records s c)) (headerGrant (formatOf (s .format)) c)) ↔ Rules (formatOf (s .format)) (carried s) c
+  -- the reader's test of a state is that of the words
+  pub valid-exactly : (s : Reader) → (readerOk s ≡ true) ↔ ValidState s
   -- "and its messages come out in order of completion"
-  pub in-order : (s : Reader) (c : List ℕ) → records s c ≡ recordsOf (endedTo (formatOf (s .format)) c (carried s) 12)
+  pub in-order : (s : Reader) (c : List ℕ) → ValidState s → length c ≡ 256 → Rules (formatOf (s .format)) (carried s) c → HandsOut s c
   -- document 02's K11: no message lies in three containers, for a carried one ends in the next, whatever that holds and whether it is
   -- accepted or not
-  pub carried-ends : (s : Reader) (c : List ℕ) → readerOk s ≡ true → length c ≡ 256 → 0 < length (carried s)
-      → CarryEnds (formatOf (s .format)) c (carried s)
+  pub carried-ends : (s : Reader) (c : List ℕ) → ValidState s → length c ≡ 256 → 0 < length (carried s)
+      → CarryEnds (formatOf (s .format)) (carried s) c
   -- "The writer fills each container in the one way the paper fixes."
   pub one-way : (w : Writer) (l : List ℕ) (n : Grant) (c : List ℕ) (u : ℕ) → filling w l n (length c) .answer ≡ Filled u → Laid w l n c u
   -- "Once a writer started fresh has used up a list and owes no tail, reading its containers in order from a fresh state gives the same

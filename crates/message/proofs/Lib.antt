@@ -2,3 +2,5 @@ pub mod HeadLaws
 pub mod PlaceLaws
 pub mod KindLaws
 pub mod HeadCases
+pub mod HeadRuleLaws
+pub mod PlaceRuleLaws

@@ -106,7 +106,7 @@ pub record Half (m : List ℕ) : Type 0 where
 abbrev pub Valid : List ℕ → Type 0
 Valid m = (m ≡ []) ⊎ Half m
 
-valid-ok : (m : List ℕ) → Valid m → (carryOk m ≡ true) × (length m ≤ 100)
+pub valid-ok : (m : List ℕ) → Valid m → (carryOk m ≡ true) × (length m ≤ 100)
 valid-ok m v = ⊎-elim none half v
   where
     none : m ≡ [] → (carryOk m ≡ true) × (length m ≤ 100)
@@ -134,7 +134,7 @@ ok-valid m e = ⊎-elim (λ (z : eqb (length m) 0 ≡ true). inl (length-zero m 
         })
 
 -- one granule more
-pub granules-more : (m b : List ℕ) → Granules m → length b ≡ 20 → Granules (m ++ b)
+granules-more : (m b : List ℕ) → Granules m → length b ≡ 20 → Granules (m ++ b)
 granules-more m b h n =
     let l : length (m ++ b) ≡ length m + 20 = length-append m b ∙ ap (λ (k : ℕ). length m + k) n in
     let q = h .granules in

@@ -20,3 +20,7 @@ pub mod EndingCases
 pub mod WriteLaws
 pub mod NextLaws
 pub mod NextEnds
+pub mod OccupyLaws
+pub mod RulesLaws
+pub mod CompletionLaws
+pub mod ReadRules

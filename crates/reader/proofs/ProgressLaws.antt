@@ -43,7 +43,7 @@ module _ (fm : Format) (c m : List ℕ) where
   next-ended g = ap (endedTo fm c m) (sym (add-one g))
 
   -- the messages that end are those whose last granules are among the twelve, in their order
-  pub endings-from : (k g : ℕ) → endedTo fm c m g ++ endings fm g (cells fm c k g (progress fm c m g)) (progress fm c m g) ≡ endedTo fm c m (g + k)
+  endings-from : (k g : ℕ) → endedTo fm c m g ++ endings fm g (cells fm c k g (progress fm c m g)) (progress fm c m g) ≡ endedTo fm c m (g + k)
   unfolding cells endings
   endings-from zero g = let e : g + 0 ≡ g = omega arith in append-nil (endedTo fm c m g) ∙ ap (endedTo fm c m) (sym e)
   endings-from (suc k) g =

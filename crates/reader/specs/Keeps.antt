@@ -2,8 +2,8 @@
 use Prim.Native.Nat.{ℕ, zero, suc, _+_, _*_, _≤_, _<_}
 use mathlib.Core.Path.{_≡_}
 use mathlib.Core.Bool.{true}
-use mathlib.Core.List.{List, [], _∷_, _++_}
-use lib.ListN.{length, getD, take}
+use mathlib.Core.List.{List, [], _++_}
+use lib.ListN.{getD}
 use lib.Dec.{T}
 use Rattle.container.specs.Layout.{Format, header}
 use Rattle.container.specs.Grants.{headerGrant}
@@ -25,19 +25,6 @@ cellOf fm c m g = cellAt fm g c (progress fm c m g)
 unfoldable pub endedTo : Format → List ℕ → List ℕ → ℕ → List (List ℕ)
 endedTo fm c m zero = []
 endedTo fm c m (suc g) = endedTo fm c m g ++ ended (cellOf fm c m g) (progress fm c m g)
-
--- a message of which p was read ends in container c
-pub record CarryEnds (fm : Format) (c p : List ℕ) : Type 0 where
-  pub message : List ℕ
-  pub others : List (List ℕ)
-  -- it is the first that ends there, it begins with what was read, and all of its bytes are there
-  pub first : endedTo fm c p 12 ≡ message ∷ others
-  pub begins : take (length p) message ≡ p
-  pub whole : length message ≡ msgSize p
-  -- when some granule up to G5 is reached, nothing is in progress
-  pub granule : ℕ
-  pub early : granule ≤ 5
-  pub nothing-left : progress fm c p granule ≡ []
 
 -- a granule: nothing starts where a message goes on; what starts is known, in a place that takes it, with a right head; unused
 -- bytes are zero
