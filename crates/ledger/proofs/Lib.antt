@@ -21,6 +21,8 @@ pub mod LedgerCases
 pub mod AuditLaws
 pub mod AnswerLaws
 pub mod RunLaws
+pub mod CallLaws
+pub mod RunRuleLaws
 pub mod NumberTakes
 pub mod SettingLaws
 pub mod LogSteps

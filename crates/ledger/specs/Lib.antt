@@ -7,3 +7,4 @@ pub mod Log
 pub mod Stream
 pub mod Cutting
 pub mod Calls
+pub mod RunRules
