@@ -1,6 +1,7 @@
 pub mod Refusals
 pub mod Packing
 pub mod TapLaws
+pub mod LinkRuleLaws
 pub mod Books
 pub mod LogRefused
 pub mod LogTap

@@ -1,6 +1,7 @@
 pub mod Demand1
 pub mod Demand2
 pub mod Tap
+pub mod LinkRules
 pub mod Demand3
 pub mod LogTap
 pub mod Marked

@@ -7,12 +7,16 @@ pub mod BookLaws
 pub mod PassLaws
 pub mod TallyLaws
 pub mod TypeLaws
+pub mod PoolRuleLaws
+pub mod PaymentRuleLaws
+pub mod GrantRuleLaws
 pub mod BegunLaws
 pub mod GrantedLaws
 pub mod EntryLaws
 pub mod HeadSums
 pub mod CarriedLaws
 pub mod ValidLaws
+pub mod ValidLedgerLaws
 pub mod AcceptedLaws
 pub mod SettleLaws
 pub mod IdleLaws

@@ -1,5 +1,7 @@
 pub mod Pools
+pub mod PoolRules
 pub mod Audit
+pub mod ValidLedger
 pub mod Idle
 pub mod Counting
 pub mod Run
