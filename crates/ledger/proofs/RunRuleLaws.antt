@@ -19,7 +19,7 @@ use Rattle.ledger.specs.declared.ledger.Step.{Step}
 use Rattle.ledger.specs.declared.ledger.Answer.{Answer}
 use Rattle.ledger.specs.declared.ledger.Answer.the-variants.{Accepted, Refused}
 use Rattle.ledger.specs.declared.entries.Run.{Run}
-use Rattle.ledger.proofs.Stub.{ledger-exactly}
+use Rattle.ledger.proofs.ValidLedgerLaws.{ledger-exactly}
 use Rattle.ledger.proofs.CallLaws.{accepted-front, accepted-back, accepted-more, behind-append}
 use Rattle.ledger.proofs.RunLaws.{Running, running-none, running-ends, running-cut, running-refused, running-more}
 
