@@ -37,4 +37,6 @@ pub mod LogCalls
 pub mod CutTheorem
 pub mod AgainTheorem
 pub mod AcceptedTheorem
+pub mod NumberRuleLaws
+pub mod LogRuleLaws
 pub mod MarkedLogs

@@ -1,5 +1,5 @@
 -- What the run over entries gives is what its rules say, and nothing else is. Assumes nothing.
-use Prim.Native.Nat.{ℕ, zero, suc, _+_, _*_, _≤_, _<_}
+use Prim.Native.Nat.{ℕ, zero, suc, _+_, _≤_, _<_}
 use mathlib.Core.Path.{_≡_, refl, sym, ap, subst, _∙_}
 use mathlib.Core.Bool.{Bool, true, false}
 use mathlib.Core.List.{List, [], _∷_, _++_}
@@ -12,7 +12,7 @@ use Rattle.lists.proofs.Tests.{cases, never-both, not-true-false}
 use Rattle.cause.specs.declared.Cause.the-variants.{BrokenRecord, InvalidState}
 use Rattle.ledger.specs.Audit.{ledgerOk, auditing}
 use Rattle.ledger.specs.Calls.{Entry, AllAccepted, behind}
-use Rattle.ledger.specs.Run.{directionAt, containerAt, running, runOver}
+use Rattle.ledger.specs.Run.{running, runOver}
 use Rattle.ledger.specs.RunRules.{entryAt, Frames, none, next, Entered, stopped, RunRule, invalid, all, cut, refused}
 use Rattle.ledger.specs.declared.ledger.Ledger.{Ledger}
 use Rattle.ledger.specs.declared.ledger.Step.{Step}

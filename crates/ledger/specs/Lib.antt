@@ -10,3 +10,4 @@ pub mod Stream
 pub mod Cutting
 pub mod Calls
 pub mod RunRules
+pub mod LogRules
