@@ -62,7 +62,7 @@ unfolding nextOf
 view-next s e o l = view-framed s e o l (readNumber l) refl
 
 -- an entry that the audit accepts is taken
-next-takes : (s : Ledger) (e o : ℕ) (l : List ℕ) (v u : ℕ) → readNumber l ≡ Value v u → u + 256 ≤ length l
+pub next-takes : (s : Ledger) (e o : ℕ) (l : List ℕ) (v u : ℕ) → readNumber l ≡ Value v u → u + 256 ≤ length l
     → auditing s (v % 2) (take 256 (drop u l)) .answer ≡ answer.Accepted
     → nextOf s e o l ≡ onward (auditing s (v % 2) (take 256 (drop u l)) .ledger) (u + 256)
 unfolding nextOf

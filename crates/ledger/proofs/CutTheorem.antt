@@ -40,7 +40,7 @@ full-stop e l ended h =
     ap (λ (t : Bool). pick (eqb (length l) 0) false (pick t false (settled l ended))) (le-leb most e h)
     ∙ pick-both (λ (t : Bool). t ≡ false) (eqb (length l) 0) refl refl
 
-empty-stop : (e : ℕ) (l : List ℕ) (ended : Bool) → length l ≡ 0 → ready e l ended ≡ false
+pub empty-stop : (e : ℕ) (l : List ℕ) (ended : Bool) → length l ≡ 0 → ready e l ended ≡ false
 empty-stop e l ended h = ap (λ (t : Bool). pick t false (pick (leb most e) false (settled l ended))) (eq-eqb (length l) 0 h)
 
 -- an entry that is allowed and of which a byte is there can be judged where the log has ended
@@ -55,7 +55,7 @@ long-ready e l few long =
     ∙ ap (λ (t : Bool). pick t false (settled l false)) (lt-leb most e few)
     ∙ ap (λ (t : Bool). pick t true (whole l (readNumber l))) (le-leb 261 (length l) long)
 
-closing-empty : (e n : ℕ) (ended : Bool) → n ≡ 0 → closing e n ended ≡ pick ended (Over (Accepted e)) More
+pub closing-empty : (e n : ℕ) (ended : Bool) → n ≡ 0 → closing e n ended ≡ pick ended (Over (Accepted e)) More
 closing-empty e n ended h =
     ap (λ (t : Bool). pick t (pick ended (Over (Accepted e)) More) (pick (ltb e most) More (Over (Refused e TooLong 0)))) (eq-eqb n 0 h)
 
@@ -63,7 +63,7 @@ closing-some : (e n : ℕ) (ended : Bool) → (n ≡ 0 → ⊥) → closing e n 
 closing-some e n ended h =
     ap (λ (t : Bool). pick t (pick ended (Over (Accepted e)) More) (pick (ltb e most) More (Over (Refused e TooLong 0)))) (ne-eqb n 0 h)
 
-closing-few : (e n : ℕ) → e < most → closing e n false ≡ More
+pub closing-few : (e n : ℕ) → e < most → closing e n false ≡ More
 closing-few e n few =
     ⊎-elim
     (λ (none : eqb n 0 ≡ true). closing-empty e n false (eqb-true n 0 none))
@@ -71,7 +71,7 @@ closing-few e n few =
     ∙ ap (λ (t : Bool). pick t More (Over (Refused e TooLong 0))) (lt-ltb e most few))
     (cases (eqb n 0))
 
-closing-full : (e n : ℕ) (ended : Bool) → (n ≡ 0 → ⊥) → most ≤ e → closing e n ended ≡ Over (Refused e TooLong 0)
+pub closing-full : (e n : ℕ) (ended : Bool) → (n ≡ 0 → ⊥) → most ≤ e → closing e n ended ≡ Over (Refused e TooLong 0)
 closing-full e n ended some full =
     closing-some e n ended some ∙ ap (λ (t : Bool). pick t More (Over (Refused e TooLong 0))) (le-ltb e most full)
 

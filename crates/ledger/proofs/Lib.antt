@@ -25,6 +25,8 @@ pub mod LedgerCases
 pub mod AuditLaws
 pub mod AnswerLaws
 pub mod RunLaws
+pub mod CallLaws
+pub mod RunRuleLaws
 pub mod NumberTakes
 pub mod SettingLaws
 pub mod LogSteps
@@ -35,4 +37,6 @@ pub mod LogCalls
 pub mod CutTheorem
 pub mod AgainTheorem
 pub mod AcceptedTheorem
+pub mod NumberRuleLaws
+pub mod LogRuleLaws
 pub mod MarkedLogs

@@ -25,25 +25,25 @@ or-false false = refl
 
 -- ---- one number
 
-setting-broken : (k : ℕ) (ns : List ℕ) (i at : ℕ) (l : List ℕ) → readNumber l ≡ Broken → settingFrom (suc k) ns i at l ≡ wrong BrokenRecord at
+pub setting-broken : (k : ℕ) (ns : List ℕ) (i at : ℕ) (l : List ℕ) → readNumber l ≡ Broken → settingFrom (suc k) ns i at l ≡ wrong BrokenRecord at
 unfolding settingFrom
 setting-broken k ns i at l e = rw e
 
-setting-wrong : (k : ℕ) (ns : List ℕ) (i at : ℕ) (l : List ℕ) (v u : ℕ) → readNumber l ≡ Value v u → valueOk ns i v ≡ false
+pub setting-wrong : (k : ℕ) (ns : List ℕ) (i at : ℕ) (l : List ℕ) (v u : ℕ) → readNumber l ≡ Value v u → valueOk ns i v ≡ false
     → settingFrom (suc k) ns i at l ≡ wrong InvalidState 0
 unfolding settingFrom
 setting-wrong k ns i at l v u e f =
     ap (λ (r : Number). numberThen r ns i at (λ v u. settingFrom k (set ns i v) (i + 1) (at + u) (drop u l))) e
     ∙ ap (λ t. pick t (settingFrom k (set ns i v) (i + 1) (at + u) (drop u l)) (wrong InvalidState 0)) f
 
-setting-on : (k : ℕ) (ns : List ℕ) (i at : ℕ) (l : List ℕ) (v u : ℕ) → readNumber l ≡ Value v u → valueOk ns i v ≡ true
+pub setting-on : (k : ℕ) (ns : List ℕ) (i at : ℕ) (l : List ℕ) (v u : ℕ) → readNumber l ≡ Value v u → valueOk ns i v ≡ true
     → settingFrom (suc k) ns i at l ≡ settingFrom k (set ns i v) (i + 1) (at + u) (drop u l)
 unfolding settingFrom
 setting-on k ns i at l v u e f =
     ap (λ (r : Number). numberThen r ns i at (λ v u. settingFrom k (set ns i v) (i + 1) (at + u) (drop u l))) e
     ∙ ap (λ t. pick t (settingFrom k (set ns i v) (i + 1) (at + u) (drop u l)) (wrong InvalidState 0)) f
 
-setting-done : (ns : List ℕ) (i at : ℕ) (l : List ℕ) → settingFrom zero ns i at l ≡ set-up ns at
+pub setting-done : (ns : List ℕ) (i at : ℕ) (l : List ℕ) → settingFrom zero ns i at l ≡ set-up ns at
 unfolding settingFrom
 setting-done ns i at l = refl
 

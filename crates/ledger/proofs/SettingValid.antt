@@ -45,7 +45,7 @@ suits-same n m x y j v h =
     (cases (eqb j 1)))
     (cases (eqb j 0))
 
-value-same : (ns ms : List ℕ) (i v : ℕ) → ((m : ℕ) → m < i → getD ns m 0 ≡ getD ms m 0) → valueOk ns i v ≡ valueOk ms i v
+pub value-same : (ns ms : List ℕ) (i v : ℕ) → ((m : ℕ) → m < i → getD ns m 0 ≡ getD ms m 0) → valueOk ns i v ≡ valueOk ms i v
 value-same ns ms i v h =
     ap (λ (t : Bool). pick (eqb i 0) (ltb v 2) t)
     (suits-same (getD ns ((i - 1) / 16 * 16 + 1) 0) (getD ms ((i - 1) / 16 * 16 + 1) 0)
@@ -105,7 +105,7 @@ setting-valid l ns n e =
 -- ---- the receivers
 
 -- number j of the sixteen of direction d
-value-at : (ns : List ℕ) (d j v : ℕ) → j < 16 → valueOk ns (16 * d + 1 + j) v ≡ suits (receiverAt ns (16 * d + 1)) j v
+pub value-at : (ns : List ℕ) (d j v : ℕ) → j < 16 → valueOk ns (16 * d + 1 + j) v ≡ suits (receiverAt ns (16 * d + 1)) j v
 value-at ns d j v h =
     let first : (16 * d + 1 + j - 1) / 16 * 16 + 1 ≡ 16 * d + 1 = omega arith in
     let place : (16 * d + 1 + j - 1) % 16 ≡ j = omega arith in
@@ -114,7 +114,7 @@ value-at ns d j v h =
     ∙ ap (λ (i : ℕ). suits (receiverAt ns i) ((16 * d + 1 + j - 1) % 16) v) first
     ∙ ap (λ (i : ℕ). suits (receiverAt ns (16 * d + 1)) i v) place
 
-suits-capacity : (r : Receiver) (p v : ℕ) → suits r (p + 2) v ≡ (leb v 1023 && (hasPool r p || eqb v 0))
+pub suits-capacity : (r : Receiver) (p v : ℕ) → suits r (p + 2) v ≡ (leb v 1023 && (hasPool r p || eqb v 0))
 suits-capacity r p v =
     let two : p + 2 - 2 ≡ p = omega arith in
     ap (λ (t : Bool). pick t (leb 1 v && leb v 8) (pick (eqb (p + 2) 1) (ltb v 2) (leb v 1023 && (hasPool r (p + 2 - 2) || eqb v 0)))) (ne-eqb (p + 2) 0 (λ z. omega arith))

@@ -28,6 +28,11 @@ AllAccepted s [] = Unit {0}
 AllAccepted s (e ∷ es) =
     (auditing s (e .direction) (e .container) .answer ≡ answer.Accepted) × AllAccepted (auditing s (e .direction) (e .container) .ledger) es
 
+-- the ledger behind entries
+abbrev pub behind : Ledger → List Entry → Ledger
+behind s [] = s
+behind s (e ∷ es) = behind (auditing s (e .direction) (e .container) .ledger) es
+
 -- a log of n entries, at most so many, with a valid configuration, whose entries the audit accepts one after the other
 pub record AcceptedLog (limit : ℕ) (l : List ℕ) (n : ℕ) : Type 0 where
   pub numbers : List ℕ

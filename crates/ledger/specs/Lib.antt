@@ -9,3 +9,5 @@ pub mod Log
 pub mod Stream
 pub mod Cutting
 pub mod Calls
+pub mod RunRules
+pub mod LogRules
