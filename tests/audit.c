@@ -10,9 +10,13 @@
 
 enum { LINE = 65536, BYTES = 65536, MOST = 64, RUN = 24, JUDGED = 200000, LAST_CAUSE = 19 };
 
-/* What a run is made of: numbers, and entries one behind the other. */
+/* The report of numbers that are no configuration, or of no direction or pool. */
+static const uint64_t REFUSED = (uint64_t)19 << 48;
+
+/* What a run is made of: numbers, and entries one behind the other, of which the last may be cut short. */
 struct input {
-    uint32_t numbers[NUMBERS];
+    uint32_t numbers[NUMBERS + 1];
+    size_t numbers_len;
     uint8_t entries[(MOST + 1) * ENTRY];
     size_t len;
 };
@@ -32,26 +36,32 @@ static void same(const char *name, const char *what, uint64_t ours, uint64_t wan
 
 /* Compares cause, place and count of the library with the wanted ones. */
 static void compare_answer(const char *name, const struct input *in, unsigned cause, uint64_t place, size_t count) {
-    same(name, "cause", c2c_audit(in->numbers, NUMBERS, in->entries, in->len), cause);
-    same(name, "cause by a call each", c2c_audit_each(in->numbers, NUMBERS, in->entries, in->len), cause);
-    same(name, "place", c2c_audit_place(in->numbers, NUMBERS, in->entries, in->len), place);
-    same(name, "count", c2c_audit_count(in->numbers, NUMBERS, in->entries, in->len), count);
+    same(name, "cause", c2c_audit(in->numbers, in->numbers_len, in->entries, in->len), cause);
+    same(name, "cause by a call each", c2c_audit_each(in->numbers, in->numbers_len, in->entries, in->len), cause);
+    same(name, "place", c2c_audit_place(in->numbers, in->numbers_len, in->entries, in->len), place);
+    same(name, "count", c2c_audit_count(in->numbers, in->numbers_len, in->entries, in->len), count);
 }
 
-/* Compares the reports of all pools with a ledger of plain C. */
+/* Compares the report of a direction and pool with the wanted one. */
+static void compare_report(const char *name, const struct input *in, uint32_t d, uint32_t p, uint64_t wanted) {
+    same(name, "report", c2c_audit_report(in->numbers, in->numbers_len, in->entries, in->len, d, p), wanted);
+}
+
+/* Compares the reports of all pools with a ledger of plain C, and some of no direction or pool. */
 static void compare_reports(const char *name, const struct input *in, const struct plain_ledger *l) {
+    static const uint32_t none[5][2] = {{2, 0}, {0, POOLS}, {1, POOLS}, {UINT32_MAX, 0}, {0, UINT32_MAX}};
+    int configured = plain_configured(in->numbers, in->numbers_len);
     for (unsigned d = 0; d < 2; d++)
-        for (unsigned p = 0; p < POOLS; p++) {
-            uint64_t report = c2c_audit_report(in->numbers, NUMBERS, in->entries, in->len, d, p);
-            same(name, "held", report >> 32, l->held[d][p]);
-            same(name, "open", report & 0xFFFFFFFFu, l->open[d][p]);
-        }
+        for (unsigned p = 0; p < POOLS; p++)
+            compare_report(name, in, d, p, configured ? ((uint64_t)l->held[d][p] << 32) + l->open[d][p] : REFUSED);
+    for (unsigned i = 0; i < 5; i++)
+        compare_report(name, in, none[i][0], none[i][1], REFUSED);
 }
 
 /* Compares the library with plain C, by one run and by a call each; answers plain C's run. */
 static struct plain_run compare_plain(const char *name, const struct input *in) {
-    struct plain_run run = plain_run(in->numbers, in->entries, in->len);
-    struct plain_run each = plain_run_each(in->numbers, in->entries, in->len);
+    struct plain_run run = plain_run(in->numbers, in->numbers_len, in->entries, in->len);
+    struct plain_run each = plain_run_each(in->numbers, in->numbers_len, in->entries, in->len);
     same(name, "plain C's cause by a call each", each.cause, run.cause);
     same(name, "plain C's place by a call each", each.place, run.place);
     same(name, "plain C's count by a call each", each.count, run.count);
@@ -93,69 +103,71 @@ static size_t read_number(const uint8_t *bytes, size_t len, uint32_t *value) {
     return 0;
 }
 
-/* Reads the configuration of a log; answers the bytes it takes, 0 if it is none that the audit could be handed. */
-static size_t read_numbers(const uint8_t *log, size_t len, uint32_t numbers[NUMBERS]) {
+/* Reads the numbers of a log's configuration, up to one that is broken; answers the bytes they take. */
+static size_t read_numbers(const uint8_t *log, size_t len, struct input *in) {
     size_t at = 0;
-    for (unsigned i = 0; i < NUMBERS; i++) {
-        size_t used = read_number(log + at, len - at, &numbers[i]);
+    for (in->numbers_len = 0; in->numbers_len < NUMBERS; in->numbers_len++) {
+        size_t used = read_number(log + at, len - at, &in->numbers[in->numbers_len]);
         if (used == 0)
-            return 0;
+            break;
         at += used;
     }
-    return numbers[2] > 1 || numbers[18] > 1 ? 0 : at;
+    return at;
 }
 
-/* Takes the whole entries of a log, up to the first that is cut or has a broken number. */
+/* Takes the entries of a log; one that is cut short or has a broken number is the last and stands as a cut one. */
 static void read_entries(const uint8_t *log, size_t len, struct input *in) {
-    uint32_t number;
-    for (;;) {
-        size_t used = read_number(log, len, &number);
-        if (used == 0 || len - used < CONTAINER)
-            return;
+    in->len = 0;
+    while (len > 0) {
+        uint32_t number = 0;
+        size_t used = read_number(log, len, &number), rest = used > 0 ? len - used : 0;
+        size_t taken = rest < CONTAINER ? rest : CONTAINER;
+        uint8_t *entry = in->entries + in->len;
         if (in->len + ENTRY > sizeof in->entries) {
             fprintf(stderr, "a log has over %d entries\n", MOST);
             exit(2);
         }
-        in->entries[in->len] = (uint8_t)(number % 2);
-        memcpy(in->entries + in->len + 1, log + used, CONTAINER);
-        in->len += ENTRY;
-        log += used + CONTAINER;
-        len -= used + CONTAINER;
+        entry[0] = (uint8_t)(number % 2);
+        memcpy(entry + 1, log + used, taken);
+        in->len += 1 + taken;
+        if (taken < CONTAINER)
+            return;
+        log += used + taken;
+        len -= used + taken;
     }
 }
 
-/* Runs one log against its line; answers 0 if the audit cannot be handed it, which the line must say by 17 or 19. */
-static int run_log(const char *name, const char *line, const char *bytes) {
+/* Runs one log against its line. */
+static void run_log(const char *name, const char *line, const char *bytes) {
     static uint8_t log[BYTES];
     static struct input in;
     unsigned count = 0, cause = 0;
     unsigned long long place = 0;
-    size_t len = decode(bytes, log), used = read_numbers(log, len, in.numbers);
+    size_t len = decode(bytes, log), used = read_numbers(log, len, &in);
     if (sscanf(line, "accepted %u", &count) != 1 && sscanf(line, "refused %u %u %llu", &count, &cause, &place) != 3) {
         fprintf(stderr, "bad line of log %s\n", name);
         exit(2);
     }
-    in.len = 0;
-    if (used > 0)
-        read_entries(log + used, len - used, &in);
-    if (used == 0 || (cause == 19 && in.len == 0)) {
+    read_entries(log + used, len - used, &in);
+    /* a broken number of the configuration is 17 in the log, but the numbers before it are too few and so 19 */
+    if (in.numbers_len < NUMBERS) {
         if (count != 0 || (cause != 17 && cause != 19))
-            differ(name, "a skipped log's cause", 0, cause);
-        return 0;
+            differ(name, "the line's cause of a broken configuration", cause, 17);
+        cause = 19;
+        place = 0;
     }
-    /* what the log alone refuses stands behind entries that are accepted */
-    if (cause == 17 || cause == 18)
-        cause = place = 0;
+    /* the place of a cut entry is its offset in the log, but here its offset in the entries */
+    if (cause == 17)
+        place = (unsigned long long)ENTRY * count;
     compare_answer(name, &in, cause, place, count);
     struct plain_run run = compare_plain(name, &in);
     same(name, "plain C's cause", run.cause, cause);
     same(name, "plain C's place", run.place, place);
     same(name, "plain C's count", run.count, count);
-    return 1;
 }
 
-/* Runs every log of a file; answers how many there are and counts the skipped ones. */
-static unsigned run_logs(const char *path, unsigned *skipped) {
+/* Runs every log of a file; answers how many there are. */
+static unsigned run_logs(const char *path) {
     static char text[LINE];
     unsigned count = 0;
     FILE *in = fopen(path, "r");
@@ -171,8 +183,7 @@ static unsigned run_logs(const char *path, unsigned *skipped) {
             fprintf(stderr, "line %u lacks a field\n", count);
             exit(2);
         }
-        if (!run_log(name, line, bytes))
-            ++*skipped;
+        run_log(name, line, bytes);
     }
     fclose(in);
     return count;
@@ -223,36 +234,48 @@ static void damage_entry(uint32_t format, uint8_t *entry) {
         damage(format, entry + 1);
 }
 
-/* Damages one number of a configuration. */
+/* Damages one number of a configuration, often a push. */
 static void damage_numbers(uint32_t numbers[NUMBERS]) {
     static const uint32_t values[6] = {0, 1, 2, 9, 1023, 1024};
-    numbers[draw(NUMBERS)] = draw(8) ? values[draw(6)] : 0xFFFFFFFFu - draw(3);
+    unsigned at = draw(4) ? draw(NUMBERS) : 2 + 16 * draw(2);
+    numbers[at] = draw(8) ? values[draw(6)] : 0xFFFFFFFFu - draw(3);
 }
 
-/* Makes a run of valid traffic and, three times out of four, damages some of it. */
+/* Makes a run of valid traffic and, three times out of four, damages some of it; some runs have a damaged configuration, a number too few
+   or too many, a last entry that is cut short, or no entries. */
 static void draw_run(struct input *in) {
     draw_numbers(in->numbers);
+    in->numbers[NUMBERS] = draw(2);
+    in->numbers_len = NUMBERS;
     draw_entries(in);
     for (unsigned i = draw(4); i > 0; i--)
         damage_entry(in->numbers[0], in->entries + ENTRY * draw(RUN));
-    if (draw(50) == 0)
+    if (draw(20) == 0)
         damage_numbers(in->numbers);
-    if (draw(4) == 0) {
-        memset(in->entries + in->len, 0xEE, ENTRY);
-        in->len += draw(ENTRY);
-    }
+    if (draw(50) == 0)
+        in->numbers_len = draw(2) ? NUMBERS - 1 : NUMBERS + 1;
+    if (draw(4) == 0)
+        in->len = ENTRY * draw(RUN) + 1 + draw(CONTAINER);
+    if (draw(20) == 0)
+        in->len = 0;
+}
+
+/* The entries that a run judges: those accepted, and one that is whole and refused. */
+static size_t count_judged(const struct input *in, const struct plain_run *run) {
+    int configured = plain_configured(in->numbers, in->numbers_len);
+    return run->count + (configured && run->count < in->len / ENTRY);
 }
 
 /* Compares random runs until enough entries are judged; answers how many runs. */
-static unsigned run_random(void) {
+static unsigned run_random(size_t *judged) {
     static struct input in;
     unsigned runs = 0, seen[LAST_CAUSE + 1] = {0};
-    for (size_t judged = 0; judged < JUDGED; runs++) {
+    for (; *judged < JUDGED; runs++) {
         char name[32];
         draw_run(&in);
         snprintf(name, sizeof name, "random run %u", runs);
         struct plain_run run = compare_plain(name, &in);
-        judged += run.count + (run.cause != 0);
+        *judged += count_judged(&in, &run);
         seen[run.cause]++;
     }
     printf("audit: random runs by cause:");
@@ -264,12 +287,12 @@ static unsigned run_random(void) {
 }
 
 int main(int argc, char **argv) {
-    unsigned skipped = 0;
+    size_t judged = 0;
     if (argc != 2) {
         fprintf(stderr, "usage: audit LOGS\n");
         return 2;
     }
-    unsigned logs = run_logs(argv[1], &skipped), runs = run_random();
-    printf("audit: %u logs (%u skipped), %u random runs, %u differences\n", logs, skipped, runs, differences);
-    return logs > skipped && differences == 0 ? 0 : 1;
+    unsigned logs = run_logs(argv[1]), runs = run_random(&judged);
+    printf("audit: %u logs, %u random runs of %zu entries, %u differences\n", logs, runs, judged, differences);
+    return logs > 0 && differences == 0 ? 0 : 1;
 }

@@ -1,4 +1,6 @@
-/* The audit of entries through the static library; 33 numbers and entries, each a direction and 256 bytes. */
+/* The audit of entries through the static library; 33 numbers and entries, each a direction and 256 bytes.
+   Another count of numbers, a push that is neither 0 nor 1, and a configuration that is not valid are cause 19 at place 0, with no entry
+   accepted, also where there is none; an entry that is cut short is cause 17 at its offset in the entries. */
 #ifndef AUDIT_H
 #define AUDIT_H
 
@@ -17,7 +19,8 @@ uint64_t c2c_audit_place(const uint32_t *numbers, size_t numbers_len, const uint
 /* The entries accepted before the first refusal. */
 size_t c2c_audit_count(const uint32_t *numbers, size_t numbers_len, const uint8_t *entries, size_t entries_len);
 
-/* Credits held * 2^32 + messages open behind the entries accepted, of one direction and pool. */
+/* Credits held * 2^32 + messages open behind the entries accepted, of one direction and pool; 19 * 2^48 where the numbers are refused by 19
+   or there is no such direction or pool. */
 uint64_t c2c_audit_report(const uint32_t *numbers, size_t numbers_len, const uint8_t *entries, size_t entries_len,
                           uint32_t direction, uint32_t pool);
 

@@ -61,11 +61,11 @@ static unsigned audit_by(unsigned way, const uint32_t *n, const uint8_t *e) {
     case 0:
         return c2c_audit(n, NUMBERS, e, COUNT * ENTRY);
     case 1:
-        return plain_run(n, e, COUNT * ENTRY).cause;
+        return plain_run(n, NUMBERS, e, COUNT * ENTRY).cause;
     case 2:
         return c2c_audit_each(n, NUMBERS, e, COUNT * ENTRY);
     default:
-        return plain_run_each(n, e, COUNT * ENTRY).cause;
+        return plain_run_each(n, NUMBERS, e, COUNT * ENTRY).cause;
     }
 }
 

@@ -378,12 +378,33 @@ struct plain_ledger plain_ledger_open(const uint32_t numbers[NUMBERS]) {
     return l;
 }
 
-struct plain_run plain_run(const uint32_t numbers[NUMBERS], const uint8_t *entries, size_t len) {
-    struct plain_run run = {0, 0, 0, plain_ledger_open(numbers)};
-    if (len >= ENTRY && !plain_valid(&run.ledger)) {
+int plain_configured(const uint32_t *numbers, size_t numbers_len) {
+    if (numbers_len != NUMBERS || numbers[2] > 1 || numbers[18] > 1)
+        return 0;
+    struct plain_ledger l = plain_ledger_open(numbers);
+    return plain_valid(&l);
+}
+
+/* A run before its entries, refused by 19 if the numbers are no configuration. */
+static struct plain_run open_run(const uint32_t *numbers, size_t numbers_len) {
+    struct plain_run run = {0};
+    if (plain_configured(numbers, numbers_len))
+        run.ledger = plain_ledger_open(numbers);
+    else
         run.cause = 19;
-        return run;
+    return run;
+}
+
+/* Refuses the bytes of an entry that is cut short behind the accepted ones. */
+static void refuse_cut(struct plain_run *run, size_t len) {
+    if (run->cause == 0 && len > 0) {
+        run->cause = 17;
+        run->place = ENTRY * run->count;
     }
+}
+
+struct plain_run plain_run(const uint32_t *numbers, size_t numbers_len, const uint8_t *entries, size_t len) {
+    struct plain_run run = open_run(numbers, numbers_len);
     for (; run.cause == 0 && len >= ENTRY; entries += ENTRY, len -= ENTRY) {
         if (entries[0] > 1)
             run.cause = 19;
@@ -391,15 +412,17 @@ struct plain_run plain_run(const uint32_t numbers[NUMBERS], const uint8_t *entri
             run.cause = plain_step(&run.ledger, entries[0], entries + 1, CONTAINER, &run.place);
         run.count += run.cause == 0;
     }
+    refuse_cut(&run, len);
     return run;
 }
 
-struct plain_run plain_run_each(const uint32_t numbers[NUMBERS], const uint8_t *entries, size_t len) {
-    struct plain_run run = {0, 0, 0, plain_ledger_open(numbers)};
+struct plain_run plain_run_each(const uint32_t *numbers, size_t numbers_len, const uint8_t *entries, size_t len) {
+    struct plain_run run = open_run(numbers, numbers_len);
     for (; run.cause == 0 && len >= ENTRY; entries += ENTRY, len -= ENTRY) {
         run.cause = plain_audit(&run.ledger, entries[0], entries + 1, CONTAINER, &run.place);
         run.count += run.cause == 0;
     }
+    refuse_cut(&run, len);
     return run;
 }
 

@@ -42,6 +42,9 @@ uint32_t plain_judge(uint32_t format, const uint8_t *container, size_t container
 /* The fresh ledger of a log's 33 numbers. */
 struct plain_ledger plain_ledger_open(const uint32_t numbers[NUMBERS]);
 
+/* Whether numbers are a configuration: 33 of them, both pushes 0 or 1, and their fresh ledger valid. */
+int plain_configured(const uint32_t *numbers, size_t numbers_len);
+
 /* Whether a ledger is valid. */
 int plain_valid(const struct plain_ledger *);
 
@@ -51,11 +54,12 @@ plain_auditing plain_audit;
 /* The same from a valid ledger and for direction 0 or 1, neither of which it judges. */
 plain_auditing plain_step;
 
-/* The entries audited by a step each, the ledger being judged once. */
-struct plain_run plain_run(const uint32_t numbers[NUMBERS], const uint8_t *entries, size_t len);
+/* The entries audited by a step each, the ledger being judged once; numbers that are no configuration are 19, an entry that is cut short
+   is 17 at its offset. */
+struct plain_run plain_run(const uint32_t *numbers, size_t numbers_len, const uint8_t *entries, size_t len);
 
 /* The same by an audit each. */
-struct plain_run plain_run_each(const uint32_t numbers[NUMBERS], const uint8_t *entries, size_t len);
+struct plain_run plain_run_each(const uint32_t *numbers, size_t numbers_len, const uint8_t *entries, size_t len);
 
 /* The pools that a well-headed message pays one credit of; answers how many. */
 unsigned plain_charges(const uint8_t *message, unsigned pools[2]);

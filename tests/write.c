@@ -1,4 +1,5 @@
-/* Runs every line of a vector file through c2c_fill and compares cause, place, bytes used, tail and container. */
+/* Runs every line of a vector file through c2c_fill and compares cause, place, bytes used, tail and container, and the same lines with a
+   tail, a grant or a ShC that is refused by 19. */
 #include <stddef.h>
 #include <stdint.h>
 #include <stdio.h>
@@ -9,7 +10,7 @@
 uint64_t c2c_fill(uint32_t format, size_t len, uint8_t *tail, size_t tail_len, const uint8_t *grant, size_t grant_len,
                   const uint8_t *list, size_t list_len, uint8_t *container, size_t container_len);
 
-enum { LINE = 32768, BYTES = 8192, TAIL = 100, GRANT = 6, CONTAINER = 256, FIELDS = 9, FILLER = 0xEE };
+enum { LINE = 32768, BYTES = 8192, TAIL = 100, GRANT = 6, CONTAINER = 256, FIELDS = 9, FILLER = 0xEE, WRONG = 5 };
 
 /* The bytes of a hex field, `-` being none. */
 static size_t decode(const char *text, uint8_t *out, size_t most) {
@@ -104,6 +105,24 @@ static int run(struct vector *v, unsigned number) {
     return 0;
 }
 
+/* Runs a vector with ShC from 2 to 255 or a tail or grant of another length; answers whether 19 is told and nothing is written. */
+static int run_wrong(const struct vector *v, unsigned number, unsigned which) {
+    static const size_t lens[WRONG][2] = {{TAIL, GRANT}, {TAIL - 1, GRANT}, {TAIL + 1, GRANT}, {TAIL, GRANT - 1}, {TAIL, GRANT + 1}};
+    uint8_t tail[TAIL + 1] = {0}, kept[TAIL + 1], grant[GRANT + 1] = {0}, container[CONTAINER];
+    memcpy(tail, v->tail, TAIL);
+    memcpy(kept, tail, sizeof kept);
+    memcpy(grant, v->grant, GRANT);
+    memset(container, FILLER, CONTAINER);
+    if (which == 0)
+        grant[0] = (uint8_t)(2 + number % 254);
+    uint64_t answer = c2c_fill(v->format, v->len, tail, lens[which][0], grant, lens[which][1], v->list, v->list_len, container, CONTAINER);
+    if (answer == 19 * 4294967296u && memcmp(tail, kept, sizeof kept) == 0 && untouched(container))
+        return 1;
+    printf("line %u, ShC %u, tail of %zu, grant of %zu bytes: answer %llu, wanted 19 and nothing written\n", number, grant[0],
+           lens[which][0], lens[which][1], (unsigned long long)answer);
+    return 0;
+}
+
 int main(int argc, char **argv) {
     static char line[LINE];
     static struct vector vector;
@@ -115,9 +134,11 @@ int main(int argc, char **argv) {
     }
     while (fgets(line, sizeof line, in) != NULL) {
         parse(line, ++count, &vector);
+        for (unsigned which = 0; which < WRONG; which++)
+            differences += !run_wrong(&vector, count, which);
         differences += !run(&vector, count);
     }
     fclose(in);
-    printf("write: %u vectors, %u differences\n", count, differences);
+    printf("write: %u vectors, %u wrong calls, %u differences\n", count, WRONG * count, differences);
     return count > 0 && differences == 0 ? 0 : 1;
 }

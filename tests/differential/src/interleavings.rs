@@ -40,7 +40,7 @@ fn keep_accepted(log: Log) -> Option<Accepted> {
             entries.push(entry);
         }
     }
-    Some(Accepted { log: Log { numbers: log.numbers, entries }, ledger })
+    Some(Accepted { log: Log { numbers: log.numbers, entries, cut: Vec::new() }, ledger })
 }
 
 /// The entries of an accepted log in another order; none if what is next in both directions is refused.
@@ -62,5 +62,5 @@ fn interleave(random: &mut Random, log: &Log) -> Option<Accepted> {
         ledger = next;
         entries.extend(waiting[direction].pop_front().cloned());
     }
-    Some(Accepted { log: Log { numbers: log.numbers.clone(), entries }, ledger })
+    Some(Accepted { log: Log { numbers: log.numbers.clone(), entries, cut: Vec::new() }, ledger })
 }

@@ -10,6 +10,9 @@ use model::message::Kind;
 use crate::make;
 use crate::random::Random;
 
+/// The bytes of an entry as the probe reads it: a direction byte and the container.
+pub const ENTRY: usize = 1 + CONTAINER;
+
 /// One container of one direction, at some time.
 #[derive(Clone)]
 pub struct Entry {
@@ -18,10 +21,12 @@ pub struct Entry {
     pub container: [u8; CONTAINER],
 }
 
-/// A configuration of 33 numbers and entries.
+/// A configuration, most of the time of 33 numbers, and entries.
 pub struct Log {
     pub numbers: Vec<u32>,
     pub entries: Vec<Entry>,
+    /// The bytes of an entry that is cut short behind the others, for the probe alone.
+    pub cut: Vec<u8>,
 }
 
 impl Log {
@@ -38,13 +43,14 @@ impl Log {
         out
     }
 
-    /// The entries as the probe reads them: a direction byte and the container each.
+    /// The entries as the probe reads them, with the one that is cut short.
     pub fn entry_bytes(&self) -> Vec<u8> {
         let mut out = Vec::new();
         for entry in &self.entries {
             out.push(entry.direction);
             out.extend_from_slice(&entry.container);
         }
+        out.extend_from_slice(&self.cut);
         out
     }
 
@@ -56,7 +62,7 @@ impl Log {
 
 /// A random log.
 pub fn log(random: &mut Random) -> Log {
-    let mut log = Log { numbers: configuration(random), entries: Vec::new() };
+    let mut log = Log { numbers: configuration(random), entries: Vec::new(), cut: Vec::new() };
     let count = if random.once_in(20) { random.below(200) } else { random.below(40) };
     let sloppy = random.pick(&[30, 300, 3_000, 1_000_000]);
     let damaged = random.pick(&[3, 20, 100, 1_000_000]);
@@ -80,6 +86,13 @@ pub fn log(random: &mut Random) -> Log {
     }
     if random.once_in(25) {
         damage_configuration(random, &mut log.numbers);
+    }
+    if random.once_in(50) {
+        log.numbers.resize(random.pick(&[NUMBERS - 1, NUMBERS + 1]), 0);
+    }
+    if random.once_in(8) {
+        let len = 1 + random.below(ENTRY - 1);
+        log.cut = make::body(random, len);
     }
     log
 }

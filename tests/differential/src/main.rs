@@ -11,11 +11,12 @@ mod random;
 mod tally;
 mod vectors;
 
+use std::array::from_fn;
 use std::path::Path;
 use std::process::ExitCode;
 use std::time::Instant;
 
-use model::cause::Refusal;
+use model::cause::{refusal, Refusal, BROKEN, NOT_VALID};
 use model::layout::{Format, Grant, CONTAINER};
 use model::ledger::{Ledger, DIRECTIONS, POOLS};
 use model::list::{check, write_list};
@@ -40,6 +41,12 @@ const ASKS: usize = 20_000;
 const AUDITED: usize = 5;
 const LONGER: usize = 10;
 const CAUSES: [u32; 17] = [1, 2, 3, 4, 5, 6, 7, 8, 9, 10, 11, 12, 13, 14, 15, 16, 19];
+
+/// The causes that logs must meet beside those of their entries.
+const LOG_CAUSES: [u32; 2] = [BROKEN, NOT_VALID];
+
+/// The report of numbers that are no configuration, or of no direction or pool.
+const REFUSED_REPORT: u64 = (NOT_VALID as u64) << 48;
 
 /// What the run was asked for.
 struct Options {
@@ -105,6 +112,10 @@ fn is_complete(tally: &Tally) -> bool {
     if !missed.is_empty() {
         println!("causes not met: {missed:?}");
     }
+    let unmet: Vec<u32> = LOG_CAUSES.into_iter().filter(|&cause| !tally.has_met_in(In::Log, cause)).collect();
+    if !unmet.is_empty() {
+        println!("causes not met in logs: {unmet:?}");
+    }
     let rare: Vec<usize> = SMALL.into_iter().filter(|&g| tally.beneath[g] < BENEATH).collect();
     if !rare.is_empty() {
         println!("fewer than {BENEATH} records beneath longer messages in granules {rare:?}");
@@ -113,7 +124,7 @@ fn is_complete(tally: &Tally) -> bool {
         println!("fewer than {PAIRS} pairs of interleavings");
     }
     let fed = feeds::is_complete(tally);
-    missed.is_empty() && rare.is_empty() && tally.pairs >= PAIRS && fed
+    missed.is_empty() && unmet.is_empty() && rare.is_empty() && tally.pairs >= PAIRS && fed
 }
 
 /// Runs the vector files against the model.
@@ -295,45 +306,35 @@ fn writer_grant(random: &mut Random) -> Grant {
     grant
 }
 
-/// A configuration as the probe reads it: any push but 0 is yes.
-fn as_probe_reads(numbers: &[u32]) -> Vec<u32> {
-    let mut numbers = numbers.to_vec();
-    for direction in 0..DIRECTIONS {
-        let push = &mut numbers[2 + direction * (2 + POOLS)];
-        *push = (*push).min(1);
-    }
-    numbers
-}
-
 /// What the model's ledger says of a log's entries, up to the first refusal.
 fn run_model(log: &logs::Log) -> proved::Audit {
-    let mut audit = proved::Audit { cause: 0, place: 0, accepted: 0, reports: [[0; POOLS]; DIRECTIONS] };
-    let mut refused = None;
-    match Ledger::from_numbers(&as_probe_reads(&log.numbers)) {
-        Err(refusal) => refused = (!log.entries.is_empty()).then_some(refusal),
-        Ok(mut ledger) => {
-            for entry in &log.entries {
-                match ledger.audit(u32::from(entry.direction), &entry.container) {
-                    Ok(next) => ledger = next,
-                    Err(refusal) => {
-                        refused = Some(refusal);
-                        break;
-                    }
-                }
-                audit.accepted += 1;
-            }
-            for (direction, pools) in audit.reports.iter_mut().enumerate() {
-                for (pool, report) in pools.iter_mut().enumerate() {
-                    *report = (ledger.held(direction, pool) << 32) + ledger.open(direction, pool);
-                }
+    let mut ledger = match Ledger::from_numbers(&log.numbers) {
+        Ok(ledger) => ledger,
+        Err(Refusal { cause, place }) => {
+            return proved::Audit { cause, place, accepted: 0, reports: [[REFUSED_REPORT; POOLS]; DIRECTIONS] };
+        }
+    };
+    let (mut accepted, mut refused) = (0, None);
+    for entry in &log.entries {
+        match ledger.audit(u32::from(entry.direction), &entry.container) {
+            Ok(next) => ledger = next,
+            Err(refusal) => {
+                refused = Some(refusal);
+                break;
             }
         }
+        accepted += 1;
     }
-    if let Some(refusal) = refused {
-        audit.cause = refusal.cause;
-        audit.place = refusal.place;
+    if refused.is_none() && !log.cut.is_empty() {
+        refused = Some(refusal(BROKEN, logs::ENTRY * accepted));
     }
-    audit
+    let report = |direction, pool| (ledger.held(direction, pool) << 32) + ledger.open(direction, pool);
+    proved::Audit {
+        cause: refused.map_or(0, |r| r.cause),
+        place: refused.map_or(0, |r| r.place),
+        accepted,
+        reports: from_fn(|direction| from_fn(|pool| report(direction, pool))),
+    }
 }
 
 /// Compares the audit of one log, as entries and, where a program is given, as bytes fed in parts.
@@ -343,19 +344,35 @@ fn compare_log(random: &mut Random, tally: &mut Tally, n: usize, program: Option
     let audited = proved::audit(&log.numbers, &log.entry_bytes());
     let mut bytes = log.bytes();
     if audited != expected {
-        tally.differ("c2c_audit", &bytes, &format!("{expected:?}"), &format!("{audited:?}"));
+        let what = format!("c2c_audit, {} numbers, cut entry {}", log.numbers.len(), hex(&log.cut));
+        tally.differ(&what, &bytes, &format!("{expected:?}"), &format!("{audited:?}"));
     }
+    compare_report(random, tally, &log);
     tally.entries += expected.accepted;
     let refused = (expected.cause != 0).then_some(Refusal { cause: expected.cause, place: expected.place });
     tally.count(In::Log, refused);
     if random.once_in(4) {
         logs::damage_bytes(random, &mut bytes);
-    } else if log.is_valid() {
+    } else if log.is_valid() && log.cut.is_empty() {
         compare_verdict(tally, &bytes, &audited);
     }
     if let (Some(program), 0) = (program, n % AUDITED) {
         let part = programs::PARTS[n / AUDITED % programs::PARTS.len()];
         compare_audit(tally, program, &bytes, part);
+    }
+}
+
+/// Compares the report of no direction or no pool.
+fn compare_report(random: &mut Random, tally: &mut Tally, log: &logs::Log) {
+    let (direction, pool) = if random.once_in(2) {
+        (DIRECTIONS + random.below(4), random.below(POOLS))
+    } else {
+        (random.below(DIRECTIONS), POOLS + random.below(7))
+    };
+    let report = proved::report(&log.numbers, &log.entry_bytes(), direction, pool);
+    if report != REFUSED_REPORT {
+        let what = format!("c2c_audit_report, direction {direction}, pool {pool}");
+        tally.differ(&what, &log.bytes(), &REFUSED_REPORT.to_string(), &report.to_string());
     }
 }
 

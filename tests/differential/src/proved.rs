@@ -1,5 +1,7 @@
 //! The proved code behind its C functions.
 
+use std::array::from_fn;
+
 use model::layout::{Grant, Part, CONTAINER, PART};
 use model::ledger::{DIRECTIONS, POOLS};
 use model::list::LIST;
@@ -120,23 +122,17 @@ pub struct Audit {
     pub cause: u32,
     pub place: u64,
     pub accepted: usize,
-    /// Held times 2^32 plus open, for each direction and pool.
+    /// The report of each direction and pool.
     pub reports: [[u64; POOLS]; DIRECTIONS],
 }
 
-/// Audits entries, each a direction byte and a container, from the fresh ledger of 33 numbers.
+/// Audits entries, each a direction byte and a container, of which the last may be cut short, from the fresh ledger of 33 numbers.
 pub fn audit(numbers: &[u32], entries: &[u8]) -> Audit {
-    assert_eq!(entries.len() % (1 + CONTAINER), 0);
+    let reports = from_fn(|direction| from_fn(|pool| report(numbers, entries, direction, pool)));
     let (n, len) = (numbers.len(), entries.len());
     let (numbers, entries) = (numbers.as_ptr(), entries.as_ptr());
-    let mut reports = [[0; POOLS]; DIRECTIONS];
     // SAFETY: pointers and lengths come from slices that live through the calls.
     unsafe {
-        for (direction, pools) in reports.iter_mut().enumerate() {
-            for (pool, report) in pools.iter_mut().enumerate() {
-                *report = c2c_audit_report(numbers, n, entries, len, direction as u32, pool as u32);
-            }
-        }
         Audit {
             cause: c2c_audit(numbers, n, entries, len),
             place: c2c_audit_place(numbers, n, entries, len),
@@ -144,4 +140,11 @@ pub fn audit(numbers: &[u32], entries: &[u8]) -> Audit {
             reports,
         }
     }
+}
+
+/// Held times 2^32 plus open behind the entries accepted, of a direction and pool, or a cause times 2^48.
+pub fn report(numbers: &[u32], entries: &[u8], direction: usize, pool: usize) -> u64 {
+    let (direction, pool) = (direction as u32, pool as u32);
+    // SAFETY: pointers and lengths come from slices that live through the call.
+    unsafe { c2c_audit_report(numbers.as_ptr(), numbers.len(), entries.as_ptr(), entries.len(), direction, pool) }
 }
