@@ -99,3 +99,10 @@ unfolding numbered causes
 number-most c =
     ⊎-elim (λ (h : causeNumber c < length causes). omega arith)
     (λ (h : length causes ≤ causeNumber c). let n = last-only c (List·getD-eq-default causes InvalidState h) in omega arith) (lt-or-le (causeNumber c) (length causes))
+
+-- and none is 0
+pub number-some : (c : Cause) → 0 < causeNumber c
+unfolding numbered causes
+number-some c =
+    ⊎-elim (λ (h : 0 < causeNumber c). h) (λ (h : causeNumber c ≤ 0). let z : causeNumber c ≡ 0 = omega arith in let n = last-only c (ap numbered z) in omega arith)
+    (lt-or-le 0 (causeNumber c))

@@ -34,8 +34,10 @@ use Rattle.history.specs.Calls.{Call, after}
 use Rattle.history.proofs.Below.{below-fits, fits-below, below-equal, equal-below}
 use Rattle.history.proofs.Calls.{Simulates}
 use Rattle.history.proofs.Demand.{books-close}
+use Rattle.history.proofs.DelayLaws.{delays}
 use Rattle.demands.specs.Tap.{startsIn, endsIn, grantsOf, receiverFor, linkOf, accepting, heldIn, openIn, auditorOf}
 use Rattle.demands.specs.Demand3.{Demand3}
+use Rattle.demands.proofs.LinkRuleLaws.{link-rules}
 use Rattle.demands.proofs.TapLaws.{reads-by, by-reads, passes-sound, receiver-valid, lawful}
 
 -- ---- directions and numbers
@@ -408,5 +410,7 @@ unfolding records
 demand3 = record {
   books-close = λ f a b v xs. books-close (linkOf f a b) (lawful f a b v) (auditorOf f a b) (Related f a b v) (simulates f a b v) xs;
   reports = λ f a b v xs d p h. (_, _, reported-counts (after (auditorOf f a b) xs) (numberOf d) p (number-below d) (calls-valid f a b v xs) h);
+  rules = link-rules;
+  delays = λ f a b. delays (linkOf f a b);
   handed-out = λ s c. refl;
 }

@@ -9,8 +9,11 @@ pub mod ReadTable
 pub mod FillTable
 pub mod AuditTable
 pub mod VerdictTable
+pub mod LedgerTable
 pub mod TableLaws
 pub mod Refusals
+pub mod HostLaws
+pub mod Demands
 pub mod Packing
 pub mod TapLaws
 pub mod LinkRuleLaws

@@ -1,4 +1,4 @@
--- Demand 1 holds. Assumes nothing.
+-- A refusal changes no state and no byte of lent memory. Assumes nothing.
 use Prim.Native.Nat.{ℕ}
 use mathlib.Core.Path.{_≡_}
 use lib.ListN.{length}
@@ -14,15 +14,15 @@ use Rattle.ledger.proofs.AnswerLaws.{refused-same}
 use Rattle.writer.specs.Filling.{fillFault, filling, fillBytes}
 use Rattle.writer.proofs.AnswerLaws.{filling-faulty}
 use Rattle.feeder.proofs.StepLaws.{refused-state, refused-part}
-use Rattle.demands.specs.Demand1.{Demand1}
+use Rattle.demands.specs.Demand1.{Untouched}
 
 -- a value that changes only where a verdict is sound
 unchanged : {A : Type 0} (v : Verdict) (a b : A) (k : Cause) (p : ℕ) → v ≡ Faulty k p → whenSound v a b ≡ b
 unchanged v a b k p e = rw e
 
-pub demand1 : Demand1
+pub untouched : Untouched
 unfolding reading readRoom judging filling fillBytes
-demand1 = record {
+untouched = record {
   read-state = λ s c room k p e. unchanged _ _ _ k p (reading-faulty (firstFault (readChecks s c (length room))) (length (records s c)) (headerGrant (formatOf (s .format)) c) k p e);
   read-memory = λ s c room k p e. unchanged _ _ _ k p (reading-faulty (firstFault (readChecks s c (length room))) (length (records s c)) (headerGrant (formatOf (s .format)) c) k p e);
   judge-state = λ s c k p e. unchanged _ _ _ k p (judging-faulty (firstFault (judgeChecks s c)) (headerGrant (formatOf (s .format)) c) (msgStart (formatOf (s .format)) c) k p e);

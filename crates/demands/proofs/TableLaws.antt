@@ -4,6 +4,7 @@ use Rattle.demands.proofs.ReadTable.{read-refused, read-accepted, judge
 use Rattle.demands.proofs.AuditTable.{audit-refused, audit-accepted}
 use Rattle.demands.proofs.FillTable.{fill-refused, fill-accepted, list-refused, list-accepted}
 use Rattle.demands.proofs.VerdictTable.{reader-refused, reader-accepted, writer-refused, writer-accepted}
+use Rattle.demands.proofs.LedgerTable.{opening-refused, opening-accepted, report-refused, report-counted}
 
 pub table : Table
 table = record {
@@ -21,4 +22,8 @@ table = record {
   reader-accepted = reader-accepted;
   writer-refused = writer-refused;
   writer-accepted = writer-accepted;
+  opening-refused = opening-refused;
+  opening-accepted = opening-accepted;
+  report-refused = report-refused;
+  report-counted = report-counted;
 }

@@ -20,7 +20,7 @@ use Rattle.demands.specs.Faults.{FormatFault, unknown}
 use Rattle.demands.specs.Order.{rank, Named, None}
 
 -- 19 at place 0 where a test fails
-abbrev verdictOf : Bool → Verdict
+abbrev pub verdictOf : Bool → Verdict
 verdictOf b = pick b Sound (Faulty InvalidState 0)
 
 module _ (b : Bool) (F : ℕ → ℕ → Type 0) (to : b ≡ false → F 19 0) (from : (j q : ℕ) → F j q → (j ≡ 19) × (q ≡ 0) × (b ≡ false)) where

@@ -2,6 +2,7 @@
 -- answered, and that every call ends, is in the contracts, since no public entry has a `requires`.
 use Prim.Native.Nat.{ℕ}
 use mathlib.Core.Path.{_≡_}
+use mathlib.Core.Bool.{Bool}
 use mathlib.Core.List.{List, []}
 use mathlib.Core.Logic.{_↔_}
 use lib.ListN.{length}
@@ -17,7 +18,16 @@ use Rattle.reader.specs.Reading as reader
 use Rattle.reader.specs.declared.reader.Reader.{Reader}
 use Rattle.reader.specs.declared.reader.Answer.the-variants as read
 use Rattle.reader.specs.declared.reader.Judgement.the-variants as judge
-use Rattle.ledger.specs.Audit.{auditing}
+use Rattle.ledger.specs.Audit.{heldOf, openOf, opening, auditing, reported}
+use Rattle.ledger.specs.Run.{runOver}
+use Rattle.ledger.specs.RunRules.{RunRule}
+use Rattle.ledger.specs.Stream.{consuming}
+use Rattle.ledger.specs.LogRules.{Consumes}
+use Rattle.ledger.specs.declared.receiver.Receiver.{Receiver}
+use Rattle.ledger.specs.declared.ledger.Reported.the-variants as report
+use Rattle.ledger.specs.declared.entries.Run.{Run}
+use Rattle.ledger.specs.declared.log.LogReader.{LogReader}
+use Rattle.ledger.specs.declared.log.Consumed.{Consumed}
 use Rattle.ledger.specs.declared.ledger.Ledger.{Ledger}
 use Rattle.ledger.specs.declared.ledger.Answer.the-variants as audit
 use Rattle.writer.specs.Laying.{usedOf}
@@ -26,14 +36,17 @@ use Rattle.writer.specs.Filling as writer
 use Rattle.writer.specs.declared.writer.Writer.{Writer}
 use Rattle.writer.specs.declared.writer.Answer.the-variants as fill
 use Rattle.feeder.specs.Feeding.{feeding, fedPart}
+use Rattle.feeder.specs.Rules.{Rule}
 use Rattle.feeder.specs.declared.found.Waiting.{Waiting}
 use Rattle.feeder.specs.declared.feed.Feed.{Feed}
 use Rattle.feeder.specs.declared.feed.Answer.the-variants as ask
-use Rattle.demands.specs.Faults.{ReadFault, JudgeFault, AuditFault, ListFault, FillFault, FormatFault}
+use Rattle.feeder.specs.declared.feed.Step.{Step}
+use Rattle.demands.specs.Faults.{ReadFault, JudgeFault, AuditFault, ListFault, FillFault, FormatFault, OpeningFault, ReportFault}
+use Rattle.demands.specs.Hosts.{Hosts}
 use Rattle.demands.specs.Order.{Named, NamedBy, None, NoneBy}
 
 -- "A refusal changes no state and no byte of lent memory"
-pub record Demand1 : Type 0 where
+pub record Untouched : Type 0 where
   -- the reader, with any container and any room
   pub read-state : (s : Reader) (c room : List ℕ) (k : Cause) (p : ℕ) → reading s c (length room) .answer ≡ read.Refused k p → reading s c (length room) .reader ≡ s
   pub read-memory : (s : Reader) (c room : List ℕ) (k : Cause) (p : ℕ) → reading s c (length room) .answer ≡ read.Refused k p → readRoom s c room ≡ room
@@ -75,3 +88,30 @@ pub record Table : Type 0 where
   pub reader-accepted : (f : ℕ) → (reader.opened f .verdict ≡ Sound) ↔ None (FormatFault f)
   pub writer-refused : (f : ℕ) (k : Cause) (p : ℕ) → (writer.opened f .verdict ≡ Faulty k p) ↔ Named (FormatFault f) k p
   pub writer-accepted : (f : ℕ) → (writer.opened f .verdict ≡ Sound) ↔ None (FormatFault f)
+  -- a new ledger, with any format number and any receivers
+  pub opening-refused : (f : ℕ) (a b : Receiver) (k : Cause) (p : ℕ) → (opening f a b .verdict ≡ Faulty k p) ↔ Named (OpeningFault f a b) k p
+  pub opening-accepted : (f : ℕ) (a b : Receiver) → (opening f a b .verdict ≡ Sound) ↔ None (OpeningFault f a b)
+  -- the report of any ledger, direction and pool number
+  pub report-refused : (s : Ledger) (d p : ℕ) (k : Cause) (q : ℕ) → (reported s d p ≡ report.Refused k q) ↔ Named (ReportFault s d p) k q
+  pub report-counted : (s : Ledger) (d p : ℕ)
+      → (reported s d p ≡ report.Counted (record { 0 = heldOf s d p }) (record { 0 = openOf s d p })) ↔ None (ReportFault s d p)
+
+pub record Demand1 : Type 0 where
+  -- "A bad one is refused with a cause and a place from the fixed table."
+  pub table : Table
+  -- "A refusal changes no state and no byte of lent memory"
+  pub untouched : Untouched
+  -- a run over entries, with any ledger and any bytes: the only outcome that its rules allow; with a refusal the ledger is the one behind the
+  -- entries accepted before
+  pub run-follows : (s : Ledger) (l : List ℕ) → RunRule s l (runOver s l)
+  pub run-only : (s : Ledger) (l : List ℕ) (r : Run) → RunRule s l r → r ≡ runOver s l
+  -- a call of the log in parts, with any state and any bytes, likewise
+  pub consume-follows : (s : LogReader) (b : List ℕ) (ended : Bool) → Consumes s b ended (consuming s b ended)
+  pub consume-only : (s : LogReader) (b : List ℕ) (ended : Bool) (r : Consumed) → Consumes s b ended r → r ≡ consuming s b ended
+  -- an ask of the feeder, with any feed and any lists of bytes, likewise
+  pub ask-follows : (f : ℕ) (responses others : List ℕ) (s : Feed) → IsBytes responses → IsBytes others
+      → Rule f responses others s (feeding f responses others s) (fedPart f responses others s)
+  pub ask-only : (f : ℕ) (responses others : List ℕ) (s : Feed) → IsBytes responses → IsBytes others → (t : Step) (bytes : List ℕ)
+      → Rule f responses others s t bytes → (t ≡ feeding f responses others s) × (bytes ≡ fedPart f responses others s)
+  -- the entries for C
+  pub hosts : Hosts

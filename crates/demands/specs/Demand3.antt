@@ -14,7 +14,9 @@ use Rattle.ledger.specs.declared.ledger.Reported.the-variants.{Counted}
 use Rattle.history.specs.Trace.{Trace}
 use Rattle.history.specs.Link.{Direction, numberOf}
 use Rattle.history.specs.Calls.{Call, after}
+use Rattle.history.specs.Delays.{Delays}
 use Rattle.history.specs.Demand.{Closed}
+use Rattle.demands.specs.LinkRules.{LinkRules}
 use Rattle.demands.specs.Tap.{endsIn, linkOf, auditorOf}
 
 pub record Demand3 : Type 1 where
@@ -24,5 +26,10 @@ pub record Demand3 : Type 1 where
   -- "At the start and after every call, the audit reports for each direction and pool": no such report is refused
   pub reports : (f : ℕ) (a b : Receiver) → configured f a b ≡ true → (xs : Trace (Call (List ℕ))) (d : Direction) (p : ℕ) → p < 14
       → (held : Credits) × (opened : Slots) × (reported (after (auditorOf f a b) xs) (numberOf d) p ≡ Counted held opened)
+  -- "Containers keep the rules above for bytes, heads and placement and these for pools", and what is counted in them is what they pay and
+  -- grant
+  pub rules : LinkRules
+  -- "delays are arbitrary"
+  pub delays : (f : ℕ) (a b : Receiver) → Delays (linkOf f a b)
   -- the messages that end in a container are those that the reader hands out as records
   pub handed-out : (s : Reader) (c : List ℕ) → records s c ≡ recordsOf (endsIn s c)

@@ -1,5 +1,5 @@
 -- The entries for C by the table: each tells in one number what the entry behind it answers, and a refusal leaves every byte lent as it was.
-use Prim.Native.Nat.{ℕ, _*_, _/_, _%_, _≤_, _<_}
+use Prim.Native.Nat.{ℕ, _/_, _%_, _≤_, _<_}
 use mathlib.Core.Path.{_≡_}
 use mathlib.Core.List.{List, []}
 use mathlib.Core.Logic.{_⊎_, _↔_}
@@ -9,18 +9,20 @@ use Rattle.cause.specs.Causes.{causeNumber}
 use Rattle.cause.specs.declared.Cause.{Cause}
 use Rattle.cause.specs.declared.Cause.the-variants.{InvalidState}
 use Rattle.reader.specs.Reading.{readerWith}
-use Rattle.ledger.specs.Audit.{freshLedger}
+use Rattle.ledger.specs.Audit.{freshLedger, reported}
 use Rattle.ledger.specs.RunRules.{RunRule}
 use Rattle.ledger.specs.declared.ledger.Ledger.{Ledger}
 use Rattle.ledger.specs.declared.ledger.Answer.the-variants as audit
+use Rattle.ledger.specs.declared.ledger.Reported.the-variants as report
+use Rattle.feeder.specs.Feeding.{fedPart}
 use Rattle.feeder.specs.declared.found.Waiting.{Waiting}
 use Rattle.feeder.specs.declared.feed.Answer.the-variants as ask
 use Rattle.host.specs.Check.{checkCode, checkRoom}
-use Rattle.host.specs.Feed.{asking, listNumber, feedCode, feedNumbers, feedRoom}
+use Rattle.host.specs.Feed.{feedFrom, asking, Told, feedCode, feedNumbers, feedRoom}
 use Rattle.probe.specs.Judge.{judgeCode}
 use Rattle.probe.specs.Fill.{grantFrom, writerFrom, fillCode, fillTail, fillContainer}
-use Rattle.audit_probe.specs.Audit.{receiverFrom, runFrom, reportFrom, reportNumber}
-use Rattle.demands.specs.Faults.{ReadFault, JudgeFault, FillFault, ReportFault}
+use Rattle.audit_probe.specs.Audit.{receiverFrom, runFrom, reportFrom}
+use Rattle.demands.specs.Faults.{ReadFault, JudgeFault, FillFault}
 use Rattle.demands.specs.Order.{Named, None}
 
 -- a code of cause·unit + place tells a cause and a place
@@ -54,17 +56,13 @@ pub record Hosts : Type 0 where
       → Tells 4_294_967_296 (fillCode f n t b l bytes) k p ↔ Named (CallFault f n t b l bytes) k p
   pub fill-memory : (f n : ℕ) (t b l c : List ℕ) → 4_294_967_296 ≤ fillCode f n t b l (length c)
       → (fillTail f n t b l (length c) ≡ t) × (fillContainer f n t b l c ≡ c)
-  -- `c2c_feed`
+  -- `c2c_feed`: cause, list and place, told by one number
   pub feed-refused : (f : ℕ) (n responses others room : List ℕ) (w : Waiting) (k : Cause) (p : ℕ) → asking f n responses others (length room) .answer ≡ ask.Refused w k p
-      → (feedCode f n responses others (length room) / 16_777_216 ≡ causeNumber k)
-      × (feedCode f n responses others (length room) / 65_536 % 256 ≡ listNumber w)
-      × (feedCode f n responses others (length room) % 65_536 ≡ p)
-      × (feedNumbers f n responses others (length room) ≡ n)
-      × (feedRoom f n responses others room ≡ room)
+      → Told (ask.Refused w k p) (length (fedPart f responses others (feedFrom n))) (feedCode f n responses others (length room))
+      × (feedNumbers f n responses others (length room) ≡ n) × (feedRoom f n responses others room ≡ room)
   -- `c2c_audit` and its like: by the rules of a run from the fresh ledger; numbers that describe none are 19
   pub audit-run : (l e : List ℕ) → Configures l → RunRule (ledgerFrom l) e (runFrom l e)
   pub audit-numbers : (l e : List ℕ) → (Configures l → ⊥) → runFrom l e ≡ record { ledger = ledgerFrom l; accepted = 0; answer = audit.Refused InvalidState 0 }
   -- `c2c_audit_report`
-  pub report-numbers : (l e : List ℕ) (d p : ℕ) → (Configures l → ⊥) → reportNumber (reportFrom l e d p) ≡ 19 * 281_474_976_710_656
-  pub report-refused : (l e : List ℕ) (d p : ℕ) → Configures l
-      → (reportNumber (reportFrom l e d p) ≡ 19 * 281_474_976_710_656) ↔ ReportFault (runFrom l e .ledger) d p 19 0
+  pub report-behind : (l e : List ℕ) (d p : ℕ) → Configures l → reportFrom l e d p ≡ reported (runFrom l e .ledger) d p
+  pub report-numbers : (l e : List ℕ) (d p : ℕ) → (Configures l → ⊥) → reportFrom l e d p ≡ report.Refused InvalidState 0

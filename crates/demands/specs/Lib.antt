@@ -1,5 +1,6 @@
 pub mod Order
 pub mod Faults
+pub mod Hosts
 pub mod Demand1
 pub mod Demand2
 pub mod Tap
