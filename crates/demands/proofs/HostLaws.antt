@@ -58,12 +58,13 @@ use Rattle.probe.specs.Judge as judged
 use Rattle.probe.specs.Fill.{grantFrom, writerFrom, answerCode, Small, sized, asked, fillCode, fillTail, fillContainer}
 use Rattle.probe.proofs.FillLaws.{step-small}
 use Rattle.audit_probe.specs.Audit.{receiverFrom, numbersOk, openingFrom, runBy, runFrom, reportBy, reportFrom}
-use Rattle.demands.specs.Faults.{ReadFault, JudgeFault, FillFault}
-use Rattle.demands.specs.Order.{rank, Named, None}
+use Rattle.reader.specs.Faults.{ReadFault, JudgeFault}
+use Rattle.writer.specs.Faults.{FillFault}
+use Rattle.cause.specs.Order.{rank, Named, None}
 use Rattle.demands.specs.Hosts.{Tells, CallFault, Configures, ledgerFrom, Hosts}
-use Rattle.demands.proofs.ReadTable.{read-refused, read-accepted, judge-refused, judge-accepted}
-use Rattle.demands.proofs.FillTable.{fill-refused}
-use Rattle.demands.proofs.VerdictTable.{verdict-refused}
+use Rattle.reader.proofs.ReadTable.{read-refused, read-accepted, judge-refused, judge-accepted}
+use Rattle.writer.proofs.FillTable.{fill-refused}
+use Rattle.cause.proofs.VerdictLaws.{verdict-refused}
 use Rattle.demands.proofs.Refusals.{untouched}
 
 -- ---- codes of cause·65,536 + place

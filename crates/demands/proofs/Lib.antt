@@ -1,15 +1,4 @@
-pub mod CellFaults
-pub mod ContainerFaults
-pub mod ReadFaults
-pub mod AuditFaults
-pub mod FillFaults
-pub mod NamedLaws
-pub mod ContainerTable
-pub mod ReadTable
-pub mod FillTable
-pub mod AuditTable
-pub mod VerdictTable
-pub mod LedgerTable
+pub mod FormatTable
 pub mod TableLaws
 pub mod Refusals
 pub mod HostLaws

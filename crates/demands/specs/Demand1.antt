@@ -41,9 +41,12 @@ use Rattle.feeder.specs.declared.found.Waiting.{Waiting}
 use Rattle.feeder.specs.declared.feed.Feed.{Feed}
 use Rattle.feeder.specs.declared.feed.Answer.the-variants as ask
 use Rattle.feeder.specs.declared.feed.Step.{Step}
-use Rattle.demands.specs.Faults.{ReadFault, JudgeFault, AuditFault, ListFault, FillFault, FormatFault, OpeningFault, ReportFault}
+use Rattle.reader.specs.Faults.{ReadFault, JudgeFault}
+use Rattle.ledger.specs.Faults.{AuditFault, OpeningFault, ReportFault}
+use Rattle.writer.specs.Faults.{ListFault, FillFault}
+use Rattle.demands.specs.Faults.{FormatFault}
 use Rattle.demands.specs.Hosts.{Hosts}
-use Rattle.demands.specs.Order.{Named, NamedBy, None, NoneBy}
+use Rattle.cause.specs.Order.{Named, NamedBy, None, NoneBy}
 
 -- "A refusal changes no state and no byte of lent memory"
 pub record Untouched : Type 0 where

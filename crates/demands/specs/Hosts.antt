@@ -22,8 +22,9 @@ use Rattle.host.specs.Feed.{feedFrom, asking, Told, feedCode, feedNumbers, feed
 use Rattle.probe.specs.Judge.{judgeCode}
 use Rattle.probe.specs.Fill.{grantFrom, writerFrom, fillCode, fillTail, fillContainer}
 use Rattle.audit_probe.specs.Audit.{receiverFrom, runFrom, reportFrom}
-use Rattle.demands.specs.Faults.{ReadFault, JudgeFault, FillFault}
-use Rattle.demands.specs.Order.{Named, None}
+use Rattle.reader.specs.Faults.{ReadFault, JudgeFault}
+use Rattle.writer.specs.Faults.{FillFault}
+use Rattle.cause.specs.Order.{Named, None}
 
 -- a code of cause·unit + place tells a cause and a place
 abbrev pub Tells : ℕ → ℕ → Cause → ℕ → Type 0

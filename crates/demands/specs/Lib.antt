@@ -1,4 +1,3 @@
-pub mod Order
 pub mod Faults
 pub mod Hosts
 pub mod Demand1

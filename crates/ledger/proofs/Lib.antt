@@ -40,3 +40,7 @@ pub mod AcceptedTheorem
 pub mod NumberRuleLaws
 pub mod LogRuleLaws
 pub mod MarkedLogs
+pub mod EntryFaults
+pub mod AuditFaults
+pub mod AuditTable
+pub mod LedgerTable

@@ -24,3 +24,8 @@ pub mod OccupyLaws
 pub mod RulesLaws
 pub mod CompletionLaws
 pub mod ReadRules
+pub mod CellFaults
+pub mod ContainerFaults
+pub mod ReadFaults
+pub mod ContainerTable
+pub mod ReadTable

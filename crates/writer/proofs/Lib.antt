@@ -21,3 +21,6 @@ pub mod TailLaws
 pub mod AnswerLaws
 pub mod StartedHere
 pub mod ValidLaws
+pub mod FillCells
+pub mod FillFaults
+pub mod FillTable

@@ -5,3 +5,4 @@ pub mod Filling
 pub mod Calls
 pub mod Holding
 pub mod ValidWriter
+pub mod Faults

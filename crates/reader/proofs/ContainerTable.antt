@@ -19,16 +19,17 @@ use Rattle.message.specs.HeadRules.{Bytes}
 use Rattle.message.specs.Places.{placed}
 use Rattle.message.proofs.HeadRuleLaws.{bytes-size, bytes-some, size-bytes, head-exactly}
 use Rattle.message.proofs.PlaceRuleLaws.{place-exactly}
 use Rattle.reader.specs.Cells.{Cell}
 use Rattle.reader.specs.Keeps.{progress, cellOf, KeepsGranule}
 use Rattle.reader.specs.Reading.{carryOk}
 use Rattle.reader.specs.Rules.{startBit, Starts, Origin, GoesOn, Populated}
 use Rattle.reader.proofs.OccupyLaws.{Follow, follow-to, goes-exactly}
 use Rattle.reader.proofs.RulesLaws.{unused-behind, behind-unused}
-use Rattle.demands.specs.Faults.{ContainerFault}
-use Rattle.demands.specs.Order.{rank}
-use Rattle.demands.proofs.CellFaults.{turnOf, Filled, StartsMisc, CellFault}
-use Rattle.demands.proofs.ContainerFaults.{not-zero}
+use Rattle.reader.specs.Faults.{ContainerFault}
+use Rattle.cause.specs.Order.{rank}
+use Rattle.cause.proofs.NamedLaws.{turnOf}
+use Rattle.reader.proofs.CellFaults.{Filled, StartsMisc, CellFault}
+use Rattle.reader.proofs.ContainerFaults.{not-zero}
 
 module _ (fm : Format) (m c : List ℕ) where
   -- a cell starts exactly where its bit is set

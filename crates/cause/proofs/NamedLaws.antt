@@ -5,12 +5,16 @@ use mathlib.Core.Path.{_≡_, refl, subst}
 use mathlib.Core.Logic.{⊎-elim, _↔_}
 use native.Mathlib.Omega.{arith}
 use Rattle.lists.proofs.Order.{lt-or-le}
 use Rattle.cause.specs.Causes.{causeNumber}
 use Rattle.cause.specs.declared.Cause.{Cause}
 use Rattle.cause.proofs.CauseLaws.{same-number}
 use Rattle.cause.proofs.FirstLaws as first
 use Rattle.cause.proofs.FirstLaws.{First}
-use Rattle.demands.specs.Order.{rank, Named, NamedBy, None, NoneBy}
+use Rattle.cause.specs.Order.{rank, Named, NamedBy, None, NoneBy}
+
+-- the rank of a cause
+abbrev pub turnOf : Cause → ℕ → ℕ
+turnOf k p = rank (causeNumber k) p
 
 -- a family by number and place, and one by number, turn and place, with their ranks
 abbrev pub Numbered : (ℕ → ℕ → Type 0) → ℕ → ℕ → ℕ → Type 0

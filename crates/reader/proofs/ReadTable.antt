@@ -16,18 +16,19 @@ use Rattle.container.specs.Layout.{Format, formatOf, msgStart}
 use Rattle.container.specs.Lawful.{Lawful}
 use Rattle.container.specs.Grants.{headerGrant}
 use Rattle.container.proofs.Formats.{lawful-of}
 use Rattle.reader.specs.Reading.{readerOk, carryOk, carried, records, reading, judging}
 use Rattle.reader.specs.declared.reader.Reader.{Reader}
 use Rattle.reader.specs.declared.reader.Answer.the-variants as answer
 use Rattle.reader.specs.declared.reader.Judgement.the-variants as judgement
 use Rattle.reader.proofs.CarryLaws.{reader-ok}
 use Rattle.reader.proofs.ReadRules.{state-exactly}
-use Rattle.demands.specs.Faults.{ReadFault, JudgeFault}
-use Rattle.demands.specs.Order.{rank, Named, None}
-use Rattle.demands.proofs.CellFaults.{turnOf, ReadCells}
-use Rattle.demands.proofs.ReadFaults.{Ranked, chain, read-first, read-none, judge-first, judge-none}
-use Rattle.demands.proofs.NamedLaws.{Numbered, Clean, Same, first-named, none-named}
-use Rattle.demands.proofs.ContainerTable.{cells-late, rows-late, Before, row-of, of-row}
+use Rattle.reader.specs.Faults.{ReadFault, JudgeFault}
+use Rattle.cause.specs.Order.{rank, Named, None}
+use Rattle.cause.proofs.NamedLaws.{turnOf}
+use Rattle.reader.proofs.CellFaults.{ReadCells}
+use Rattle.reader.proofs.ReadFaults.{Ranked, chain, read-first, read-none, judge-first, judge-none}
+use Rattle.cause.proofs.NamedLaws.{Numbered, Clean, Same, first-named, none-named}
+use Rattle.reader.proofs.ContainerTable.{cells-late, rows-late, Before, row-of, of-row}
 
 module _ (s : Reader) (c : List ℕ) (n : ℕ) where
   abbrev fm : Format

@@ -1,10 +1,10 @@
--- "Causes and places" (document 01): the order of refusal, the fault that is named, and the kinds of places. A cause stands as the number
+-- "Causes and places" (document 01): the order of refusal, and the fault that is named. A cause stands as the number
 -- of the table's first column.
 use Prim.Native.Nat.{ℕ, _+_, _*_, _<_}
 use mathlib.Core.List.{List, [], _∷_}
 use lib.ListN.{getD}
 use Rattle.cause.specs.Causes.{causeNumber}
 use Rattle.cause.specs.declared.Cause.{Cause}
 
 -- the ranks of causes 0 to 19, of which 0 is none, at granule, group, pool, turn (14) or byte offset (17) p
 abbrev pub ranks : ℕ → List ℕ

@@ -21,11 +21,12 @@ use Rattle.container.specs.Grants.{headerGrant, planeAllowed, noCounts, reserve
 use Rattle.container.specs.declared.grant.Grant.{Grant}
 use Rattle.message.specs.Heads.{typeOf, opOf, msgSize, known, wellHeaded, miscU, activation}
 use Rattle.message.specs.Places.{placed, miscs, responses}
 use Rattle.reader.specs.Cells.{Cell, cells}
 use Rattle.reader.specs.Checking.{used, cellChecks, granuleChecks, populated, noGap, starting, sumOf, oneMisc, fourResponses, groupChecks, headerChecks, activations, quiet, activationChecks, containerChecks}
 use Rattle.reader.specs.Keeps.{progress, cellOf}
 use Rattle.reader.proofs.ProgressLaws.{listFrom, cells-of}
-use Rattle.demands.proofs.CellFaults.{turnOf, Filled, StartsMisc, StartsActivation, started, CellFault, reserved, form, inside, unknown, place, head, unused, gap, second, many, beside}
+use Rattle.cause.proofs.NamedLaws.{turnOf}
+use Rattle.reader.proofs.CellFaults.{Filled, StartsMisc, StartsActivation, started, CellFault, reserved, form, inside, unknown, place, head, unused, gap, second, many, beside}
 use Rattle.cause.proofs.FirstLaws.{Site, tests, Fails, fails-front, fails-back, Rises, rises-append, rises-from, rises-to, Sounds, sounds-append}
 
 -- checks with their turns

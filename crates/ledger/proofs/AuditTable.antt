@@ -19,18 +19,19 @@ use Rattle.container.proofs.Formats.{lawful-of}
 use Rattle.reader.specs.Keeps.{cellOf}
 use Rattle.reader.specs.Reading.{carryOk, carried}
 use Rattle.reader.proofs.CarryLaws.{reader-ok}
 use Rattle.ledger.specs.Audit.{readerOf, directionOk, ledgerOk, auditing}
 use Rattle.ledger.specs.declared.ledger.Ledger.{Ledger}
 use Rattle.ledger.specs.declared.ledger.Answer.the-variants as answer
 use Rattle.ledger.proofs.ValidLaws.{direction-valid}
 use Rattle.ledger.proofs.ValidLedgerLaws.{ledger-exactly}
-use Rattle.demands.specs.Faults.{AuditFault}
-use Rattle.demands.specs.Order.{rank, NamedBy, NoneBy}
-use Rattle.demands.proofs.CellFaults.{turnOf, AuditCells}
-use Rattle.demands.proofs.ReadFaults.{chain}
-use Rattle.demands.proofs.AuditFaults.{Turned, audit-first, audit-none}
-use Rattle.demands.proofs.NamedLaws.{NumberedBy, Clean, Same, first-named-by, none-named-by}
-use Rattle.demands.proofs.ContainerTable.{cells-late, rows-late, Before, row-of, of-row, starts-in, starts-cell}
+use Rattle.ledger.specs.Faults.{AuditFault}
+use Rattle.cause.specs.Order.{rank, NamedBy, NoneBy}
+use Rattle.cause.proofs.NamedLaws.{turnOf}
+use Rattle.ledger.proofs.EntryFaults.{AuditCells}
+use Rattle.reader.proofs.ReadFaults.{chain}
+use Rattle.ledger.proofs.AuditFaults.{Turned, audit-first, audit-none}
+use Rattle.cause.proofs.NamedLaws.{NumberedBy, Clean, Same, first-named-by, none-named-by}
+use Rattle.reader.proofs.ContainerTable.{cells-late, rows-late, Before, row-of, of-row, starts-in, starts-cell}
 
 module _ (s : Ledger) (d : ℕ) (c : List ℕ) where
   abbrev fm : Format

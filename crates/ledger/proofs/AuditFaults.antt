@@ -24,18 +24,19 @@ use Rattle.reader.specs.Cells.{Cell, startings}
 use Rattle.reader.specs.Keeps.{progress}
 use Rattle.reader.specs.Reading.{carried, stateChecks}
 use Rattle.reader.proofs.ProgressLaws.{listFrom, cells-of}
 use Rattle.ledger.specs.PoolRules.{grantIn, capacityOf}
 use Rattle.ledger.specs.Pools.{hasPool, paysReq, paysData, paysPush, messageChecks, grantChecks, allMessages, allGrants, paidTo, grantedTo, grantsIn}
 use Rattle.ledger.specs.Audit.{receiverOf, readerOf, heldOf, openOf, ledgerOk, opposite, begun, granted, heldChecks, roomChecks, auditChecks, answerOf, auditing}
 use Rattle.ledger.specs.declared.receiver.Receiver.{Receiver}
 use Rattle.ledger.specs.declared.ledger.Ledger.{Ledger}
 use Rattle.ledger.specs.declared.ledger.Answer.the-variants as answer
 use Rattle.ledger.proofs.PaymentRuleLaws.{req-class, data-class, push-class}
-use Rattle.demands.specs.Faults.{PaymentFault, GrantFault, dedicated, push, dat0, dat1}
-use Rattle.demands.proofs.CellFaults.{turnOf, entryCell, AuditCells, message, heading, granting, over, full}
+use Rattle.ledger.specs.Faults.{PaymentFault, GrantFault, dedicated, push, dat0, dat1}
+use Rattle.cause.proofs.NamedLaws.{turnOf}
+use Rattle.ledger.proofs.EntryFaults.{entryCell, AuditCells, message, heading, granting, over, full}
 use Rattle.cause.proofs.FirstLaws.{Site, tests, tests-append, Fails, fails-front, fails-back, Rises, rises-from, rises-to, rises-append, Sounds, sounds-append, First, None, Lists, listed-first, listed-none}
-use Rattle.demands.proofs.ContainerFaults.{ranked, tests-ranked, fails-as, guard-fails, fail-guard, and-fails, fail-left, fail-right, or-fails, not-zero, zero-not, containerSites, container-complete, container-rises, container-sound}
-use Rattle.demands.proofs.ReadFaults.{chain}
+use Rattle.reader.proofs.ContainerFaults.{ranked, tests-ranked, fails-as, guard-fails, fail-guard, and-fails, fail-left, fail-right, or-fails, not-zero, zero-not, containerSites, container-complete, container-rises, container-sound}
+use Rattle.reader.proofs.ReadFaults.{chain}
 
 -- ---- a family of faults by cause, turn and place
 abbrev pub Turned : (Cause → ℕ → ℕ → Type 0) → ℕ → Cause → ℕ → Type 0

@@ -29,15 +29,16 @@ use Rattle.record.specs.declared.number.Number.the-variants.{Broken, Value}
 use Rattle.record.specs.declared.list.First as list
 use Rattle.record.specs.declared.list.First.the-variants.{Empty, Bad, Whole}
 use Rattle.record.proofs.RecordLaws.{first-splits, first-written, fault-next, fault-bad, fault-start, list-broken}
 use Rattle.writer.specs.Laying.{usedOf}
 use Rattle.writer.specs.Filling.{tailOf, callChecks, fillFault, answerOf, filling}
 use Rattle.writer.specs.declared.writer.Writer.{Writer}
 use Rattle.writer.specs.declared.writer.Answer.the-variants as answer
 use Rattle.writer.proofs.AnswerLaws.{filling-faulty, filling-sound}
-use Rattle.demands.proofs.CellFaults.{turnOf, ListCells, FillCells, long, broken}
+use Rattle.cause.proofs.NamedLaws.{turnOf}
+use Rattle.writer.proofs.FillCells.{ListCells, FillCells, long, broken}
 use Rattle.cause.proofs.FirstLaws.{Fails, Rises, rises-from, Sounds, First, None, Lists, listed-first, listed-none}
-use Rattle.demands.proofs.ContainerFaults.{ranked, tests-ranked, fails-as, guard-fails, fail-guard, and-fails, fail-left, fail-right, not-zero, zero-not}
-use Rattle.demands.proofs.ReadFaults.{Ranked, chain}
+use Rattle.reader.proofs.ContainerFaults.{ranked, tests-ranked, fails-as, guard-fails, fail-guard, and-fails, fail-left, fail-right, not-zero, zero-not}
+use Rattle.reader.proofs.ReadFaults.{Ranked, chain}
 
 -- ---- a broken record
 

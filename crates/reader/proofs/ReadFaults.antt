@@ -13,14 +13,15 @@ use Rattle.cause.specs.declared.Verdict.the-variants.{Sound, Faulty}
 use Rattle.container.specs.Layout.{Format, formatOf, msgStart}
 use Rattle.container.specs.Grants.{headerGrant}
 use Rattle.container.specs.declared.grant.Grant.{Grant}
 use Rattle.reader.specs.Reading.{carried, stateChecks, judgeChecks, readChecks, records, answerOf, reading, judgementOf, judging}
 use Rattle.reader.specs.declared.reader.Reader.{Reader}
 use Rattle.reader.specs.declared.reader.Answer.the-variants as answer
 use Rattle.reader.specs.declared.reader.Judgement.the-variants as judgement
 use Rattle.reader.proofs.AnswerLaws.{reading-faulty, judging-faulty, judging-sound}
-use Rattle.demands.proofs.CellFaults.{turnOf, ReadCells}
+use Rattle.cause.proofs.NamedLaws.{turnOf}
+use Rattle.reader.proofs.CellFaults.{ReadCells}
 use Rattle.cause.proofs.FirstLaws.{Fails, First, None, Lists, rises-from, listed-first, listed-none}
-use Rattle.demands.proofs.ContainerFaults.{ranked, tests-ranked, fails-as, containerSites, container-complete, container-rises, container-sound}
+use Rattle.reader.proofs.ContainerFaults.{ranked, tests-ranked, fails-as, containerSites, container-complete, container-rises, container-sound}
 
 -- a family of faults by cause and place, with its ranks
 abbrev pub Ranked : (Cause → ℕ → Type 0) → ℕ → Cause → ℕ → Type 0

@@ -1,23 +1,18 @@
--- A verdict that is 19 where a test fails, and a new reader's and writer's, name what the table gives. Assumes nothing.
+-- A verdict that is 19 where a test fails names what a table gives. Assumes nothing.
 use Prim.Native.Nat.{ℕ, _≤_}
-use mathlib.Core.Path.{_≡_, refl, sym, ap, _∙_, subst}
+use mathlib.Core.Path.{_≡_, sym, ap, _∙_, subst}
 use mathlib.Core.Bool.{Bool, true, false}
 use mathlib.Core.Logic.{⊎-elim, _↔_}
 use native.Mathlib.Omega.{arith}
-use lib.Dec.{ltb}
-use borrow.Author.Tests.{le-ltb, ltb-false}
 use Rattle.lists.specs.Pick.{pick}
 use Rattle.lists.proofs.Tests.{cases, not-true-false}
 use Rattle.cause.specs.Causes.{causeNumber}
 use Rattle.cause.specs.declared.Cause.{Cause}
 use Rattle.cause.specs.declared.Cause.the-variants.{InvalidState}
 use Rattle.cause.specs.declared.Verdict.{Verdict}
 use Rattle.cause.specs.declared.Verdict.the-variants.{Sound, Faulty}
 use Rattle.cause.proofs.CauseLaws.{same-number}
-use Rattle.reader.specs.Reading as reader
-use Rattle.writer.specs.Filling as writer
-use Rattle.demands.specs.Faults.{FormatFault, unknown}
-use Rattle.demands.specs.Order.{rank, Named, None}
+use Rattle.cause.specs.Order.{rank, Named, None}
 
 -- 19 at place 0 where a test fails
 abbrev pub verdictOf : Bool → Verdict
@@ -59,23 +54,3 @@ module _ (b : Bool) (F : ℕ → ℕ → Type 0) (to : b ≡ false → F 19 0) (
     where
       clash : Faulty InvalidState 0 ≡ Sound → ⊥
       clash f = let z : _≡_ {A = ℕ} 0 1 = cc in omega arith
-
--- ---- a format
-module _ (f : ℕ) where
-  format-row : ltb f 2 ≡ false → FormatFault f 19 0
-  format-row e = unknown (ltb-false f 2 e)
-
-  row-format : (j q : ℕ) → FormatFault f j q → (j ≡ 19) × (q ≡ 0) × (ltb f 2 ≡ false)
-  row-format j q (unknown l) = (refl, refl, le-ltb f 2 l)
-
-  pub reader-refused : (k : Cause) (p : ℕ) → (reader.opened f .verdict ≡ Faulty k p) ↔ Named (FormatFault f) k p
-  reader-refused k p = verdict-refused (ltb f 2) (FormatFault f) format-row row-format k p
-
-  pub reader-accepted : (reader.opened f .verdict ≡ Sound) ↔ None (FormatFault f)
-  reader-accepted = verdict-accepted (ltb f 2) (FormatFault f) format-row row-format
-
-  pub writer-refused : (k : Cause) (p : ℕ) → (writer.opened f .verdict ≡ Faulty k p) ↔ Named (FormatFault f) k p
-  writer-refused k p = verdict-refused (ltb f 2) (FormatFault f) format-row row-format k p
-
-  pub writer-accepted : (writer.opened f .verdict ≡ Sound) ↔ None (FormatFault f)
-  writer-accepted = verdict-accepted (ltb f 2) (FormatFault f) format-row row-format

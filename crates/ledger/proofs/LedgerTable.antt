@@ -12,17 +12,17 @@ use Rattle.lists.proofs.Order.{lt-or-le}
 use Rattle.cause.specs.declared.Cause.{Cause}
 use Rattle.cause.specs.declared.Cause.the-variants.{InvalidState}
 use Rattle.cause.specs.declared.Verdict.the-variants.{Sound, Faulty}
 use Rattle.ledger.specs.Audit.{heldOf, openOf, ledgerOk, configured, opening, reported}
 use Rattle.ledger.specs.ValidLedger.{ValidLedger}
 use Rattle.ledger.specs.declared.receiver.Receiver.{Receiver}
 use Rattle.ledger.specs.declared.ledger.Ledger.{Ledger}
 use Rattle.ledger.specs.declared.ledger.Reported.{Reported}
 use Rattle.ledger.specs.declared.ledger.Reported.the-variants as report
 use Rattle.ledger.proofs.ValidLedgerLaws.{configured-exactly, ledger-exactly}
-use Rattle.demands.specs.Faults.{OpeningFault, ReportFault}
+use Rattle.ledger.specs.Faults.{OpeningFault, ReportFault}
 use Rattle.demands.specs.Faults as faults
-use Rattle.demands.specs.Order.{Named, None}
-use Rattle.demands.proofs.VerdictTable.{verdictOf, verdict-refused, verdict-accepted}
+use Rattle.cause.specs.Order.{Named, None}
+use Rattle.cause.proofs.VerdictLaws.{verdictOf, verdict-refused, verdict-accepted}
 
 -- ---- a configuration
 module _ (f : ℕ) (a b : Receiver) where

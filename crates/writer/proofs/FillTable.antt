@@ -12,17 +12,17 @@ use Rattle.cause.specs.declared.Verdict.the-variants.{Sound, Faulty}
 use Rattle.container.specs.Layout.{formatOf}
 use Rattle.container.specs.declared.grant.Grant.{Grant}
 use Rattle.record.specs.Records.{listFault}
 use Rattle.writer.specs.Laying.{usedOf}
 use Rattle.writer.specs.Filling.{tailOf, writerOk, filling}
 use Rattle.writer.specs.declared.writer.Writer.{Writer}
 use Rattle.writer.specs.declared.writer.Answer.the-variants as answer
 use Rattle.writer.proofs.ValidLaws.{writer-exactly}
-use Rattle.demands.specs.Faults.{ListFault, FillFault}
-use Rattle.demands.specs.Order.{rank, Named, None}
-use Rattle.demands.proofs.CellFaults.{ListCells, FillCells}
-use Rattle.demands.proofs.ReadFaults.{Ranked, chain}
-use Rattle.demands.proofs.FillFaults.{list-first, list-none, fill-first, fill-none}
-use Rattle.demands.proofs.NamedLaws.{Numbered, Same, first-named, none-named}
+use Rattle.writer.specs.Faults.{ListFault, FillFault}
+use Rattle.cause.specs.Order.{rank, Named, None}
+use Rattle.writer.proofs.FillCells.{ListCells, FillCells}
+use Rattle.reader.proofs.ReadFaults.{Ranked, chain}
+use Rattle.writer.proofs.FillFaults.{list-first, list-none, fill-first, fill-none}
+use Rattle.cause.proofs.NamedLaws.{Numbered, Same, first-named, none-named}
 
 -- two families, by cause and by number, with the same faults
 module _ (A : Cause → ℕ → Type 0) (F : ℕ → ℕ → Type 0) (to : (k : Cause) (p : ℕ) → A k p → F (causeNumber k) p)
