@@ -10,7 +10,7 @@ use lib.Dec.{eqb, ltb}
 use borrow.Author.Tests.{eq-eqb, eqb-true, eqb-false, lt-ltb, ltb-true, ltb-false}
 use Rattle.lists.specs.Parts.{IsBytes, put}
 use Rattle.lists.specs.Pick.{pick}
-use Rattle.lists.proofs.Tests.{cases, never-both, not-true-false, and-left, and-right, and-both}
+use Rattle.lists.proofs.Tests.{cases, never-both, not-true-false, and-left, and-right, and-both, and-false}
 use Rattle.cause.specs.Causes.{causeNumber}
 use Rattle.cause.specs.Checks.{firstFault, whenSound}
 use Rattle.cause.specs.declared.Cause.{Cause}
@@ -161,10 +161,11 @@ module _ (f n : ℕ) (t b l : List ℕ) where
   -- what the test of sizes says
   right : sized t b ≡ true → (length t ≡ 100) × (length b ≡ 6) × (getD b 0 0 < 2)
   right e =
-      let r = and-right (eqb (length t) 100) (eqb (length b) 6 && ltb (getD b 0 0) 2) e in
-      (eqb-true (length t) 100 (and-left (eqb (length t) 100) (eqb (length b) 6 && ltb (getD b 0 0) 2) e),
-      eqb-true (length b) 6 (and-left (eqb (length b) 6) (ltb (getD b 0 0) 2) r),
-      ltb-true (getD b 0 0) 2 (and-right (eqb (length b) 6) (ltb (getD b 0 0) 2) r))
+      let r = and-right (eqb (length t) 100) (eqb (length b) 6 && ltb (getD b 0 0) 2) e in (
+        eqb-true (length t) 100 (and-left (eqb (length t) 100) (eqb (length b) 6 && ltb (getD b 0 0) 2) e),
+        eqb-true (length b) 6 (and-left (eqb (length b) 6) (ltb (getD b 0 0) 2) r),
+        ltb-true (getD b 0 0) 2 (and-right (eqb (length b) 6) (ltb (getD b 0 0) 2) r),
+      )
 
   sizes-right : length t ≡ 100 → length b ≡ 6 → getD b 0 0 < 2 → sized t b ≡ true
   sizes-right x y z =
@@ -252,16 +253,18 @@ module _ (f n : ℕ) (t b l : List ℕ) where
         whole : sized t b ≡ true → Tells 4_294_967_296 (fillCode f n t b l bytes) k p ↔ Named G k p
         whole e =
             let a = answer-told (asked f n t b l bytes .answer) (asked f n t b l bytes .writer .len) (small e) k p in
-            let r = fill-refused (writerFrom f n t) l (grantFrom b) bytes hb k p in
-            (λ x. named-same F G (to-call e) (from-call e) k p (r .0 (a .0 (subst (λ (i : ℕ). Tells 4_294_967_296 i k p) (code-sized e) x))),
-            λ m. subst (λ (i : ℕ). Tells 4_294_967_296 i k p) (sym (code-sized e)) (a .1 (r .1 (named-same G F (from-call e) (to-call e) k p m))))
+            let r = fill-refused (writerFrom f n t) l (grantFrom b) bytes hb k p in (
+              λ x. named-same F G (to-call e) (from-call e) k p (r .0 (a .0 (subst (λ (i : ℕ). Tells 4_294_967_296 i k p) (code-sized e) x))),
+              λ m. subst (λ (i : ℕ). Tells 4_294_967_296 i k p) (sym (code-sized e)) (a .1 (r .1 (named-same G F (from-call e) (to-call e) k p m))),
+            )
 
         other : sized t b ≡ false → Tells 4_294_967_296 (fillCode f n t b l bytes) k p ↔ Named G k p
         other e =
             let a = nineteen k p in
-            let r = verdict-refused false G (λ z. unsized-row e) (row-unsized e) k p in
-            (λ x. r .0 (a .0 (subst (λ (i : ℕ). Tells 4_294_967_296 i k p) (code-unsized e) x)),
-            λ m. subst (λ (i : ℕ). Tells 4_294_967_296 i k p) (sym (code-unsized e)) (a .1 (r .1 m)))
+            let r = verdict-refused false G (λ z. unsized-row e) (row-unsized e) k p in (
+              λ x. r .0 (a .0 (subst (λ (i : ℕ). Tells 4_294_967_296 i k p) (code-unsized e) x)),
+              λ m. subst (λ (i : ℕ). Tells 4_294_967_296 i k p) (sym (code-unsized e)) (a .1 (r .1 m)),
+            )
 
   -- a refused fill writes nothing
   module _ (c : List ℕ) where
@@ -344,14 +347,10 @@ module _ (l e : List ℕ) where
     report-by : Configures l → (t : Bool) → configured fm first second ≡ t → reportFrom l e d p ≡ reported (runFrom l e .ledger) d p
     unfolding reportFrom runFrom
     report-by h true q = rw (configures h, q)
-    report-by h false q = rw (configures h, q) (sym (none-there))
+    report-by h false q = rw (configures h, q) (sym none-there)
       where
         none-there : reported (ledgerFrom l) d p ≡ report.Refused InvalidState 0
-        none-there = rw (not-true-false (ledgerOk (ledgerFrom l)) (λ t. never-both q (described (ledger-exactly (ledgerFrom l) .0 t))), and-none (ltb d 2), and-none (ltb p 14))
-
-        and-none : (t : Bool) → (t && false) ≡ false
-        and-none true = refl
-        and-none false = refl
+        none-there = rw (not-true-false (ledgerOk (ledgerFrom l)) (λ t. never-both q (described (ledger-exactly (ledgerFrom l) .0 t))), and-false (ltb p 14), and-false (ltb d 2))
 
     report-behind : Configures l → reportFrom l e d p ≡ reported (runFrom l e .ledger) d p
     report-behind h = report-by h (configured fm first second) refl

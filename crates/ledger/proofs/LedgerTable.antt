@@ -20,7 +20,6 @@ use Rattle.ledger.specs.declared.ledger.Reported.{Reported}
 use Rattle.ledger.specs.declared.ledger.Reported.the-variants as report
 use Rattle.ledger.proofs.ValidLedgerLaws.{configured-exactly, ledger-exactly}
 use Rattle.ledger.specs.Faults.{OpeningFault, ReportFault}
-use Rattle.demands.specs.Faults as faults
 use Rattle.cause.specs.Order.{Named, None}
 use Rattle.cause.proofs.VerdictLaws.{verdictOf, verdict-refused, verdict-accepted}
 
