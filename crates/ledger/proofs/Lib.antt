@@ -36,7 +36,7 @@ pub mod SettingValid
 pub mod LogCalls
 pub mod CutTheorem
 pub mod AgainTheorem
-pub mod AcceptedTheorem
 pub mod NumberRuleLaws
 pub mod LogRuleLaws
+pub mod WholeLogLaws
 pub mod MarkedLogs

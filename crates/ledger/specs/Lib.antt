@@ -11,3 +11,4 @@ pub mod Cutting
 pub mod Calls
 pub mod RunRules
 pub mod LogRules
+pub mod WholeLog
