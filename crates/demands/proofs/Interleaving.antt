@@ -2,7 +2,7 @@
 use Prim.Native.Nat.{ℕ, _<_}
 use mathlib.Core.Path.{_≡_, refl, sym, ap, subst, _∙_}
 use mathlib.Core.Bool.{true}
-use mathlib.Core.List.{List, [], _∷_}
+use mathlib.Core.List.{List}
 use lib.ListN.{length, getD}
 use Rattle.cause.specs.Checks.{firstFault, whenSound}
 use Rattle.cause.specs.declared.Verdict.{Verdict}
@@ -10,13 +10,12 @@ use Rattle.cause.specs.declared.Verdict.the-variants.{Sound, Faulty}
 use Rattle.reader.specs.declared.reader.Reader.{Reader}
 use Rattle.ledger.specs.Audit.{receiverOf, readerOf, heldOf, openOf, ledgerOk, configured, auditChecks, nextLedger, auditing, heldAfter, openAfter, reported}
 use Rattle.ledger.specs.Log.{receiverAt, ledgerOf}
-use Rattle.ledger.specs.Stream.{most}
-use Rattle.ledger.specs.Calls.{AcceptedLog}
-use Rattle.ledger.specs.Calls as log
+use Rattle.ledger.specs.Calls.{behind}
+use Rattle.ledger.specs.WholeLog.{AcceptedLog}
 use Rattle.ledger.specs.declared.receiver.Receiver.{Receiver}
 use Rattle.ledger.specs.declared.ledger.Ledger.{Ledger}
 use Rattle.ledger.proofs.SettingValid.{fresh-valid}
-use Rattle.ledger.proofs.LogStates.{audit-keeps}
+use Rattle.ledger.proofs.CallLaws.{behind-valid}
 use Rattle.ledger.proofs.TableSelf.{length-table, table-equal}
 use Rattle.history.specs.Trace.{Trace, start, _▷_}
 use Rattle.history.specs.Link.{Direction, direction0, direction1, numberOf}
@@ -27,11 +26,11 @@ use Rattle.history.specs.Interleaving.{SameContainers, SameReports}
 use Rattle.history.proofs.Calls.{always-related}
 use Rattle.history.proofs.Interleaved.{interleaved, interleaved-states}
 use Rattle.demands.specs.Tap.{linkOf, heldIn, openIn, auditorOf}
-use Rattle.demands.specs.LogTap.{tapOf, behind}
+use Rattle.demands.specs.LogTap.{tapOf}
 use Rattle.demands.specs.Interleaving.{SameEnd, SameTraffic, lastLedger, Interleaving}
 use Rattle.demands.proofs.TapLaws.{lawful}
 use Rattle.demands.proofs.Books.{number-below, of-number, reported-held, reported-open, Related, simulates}
-use Rattle.demands.proofs.LogTap.{ran}
+use Rattle.demands.proofs.LogTap.{ran, valid-by}
 
 -- both tables of a ledger have 28 entries
 abbrev Long : Ledger → Type 0
@@ -111,27 +110,23 @@ module _ (f : ℕ) (a b : Receiver) (v : configured f a b ≡ true) where
     answers-alike d c = ap (λ (l : Ledger). auditing l d c .answer) ledgers-alike
 
 -- the ledger behind an accepted log is valid
-behind-valid : (s : Ledger) (es : List log.Entry) → ledgerOk s ≡ true → ledgerOk (behind s es) ≡ true
-behind-valid s [] h = h
-behind-valid s (e ∷ es) h = behind-valid (auditing s (e .direction) (e .container) .ledger) es (audit-keeps s (e .direction) (e .container) h)
-
-last-valid : (l : List ℕ) (n : ℕ) (x : AcceptedLog most l n) → ledgerOk (lastLedger x) ≡ true
+last-valid : (l : List ℕ) (n : ℕ) (x : AcceptedLog l n) → ledgerOk (lastLedger x) ≡ true
 last-valid l n x =
-    behind-valid (ledgerOf (x .numbers)) (x .calls) (fresh-valid (getD (x .numbers) 0 0) (receiverAt (x .numbers) 1) (receiverAt (x .numbers) 17) (x .valid))
+    behind-valid (ledgerOf (x .begun .numbers)) (x .begun .calls) (fresh-valid (getD (x .begun .numbers) 0 0) (receiverAt (x .begun .numbers) 1) (receiverAt (x .begun .numbers) 17) (valid-by (x .begun)))
 
 -- the entries of two logs are such lists of calls
-module _ (l k : List ℕ) (n m : ℕ) (x : AcceptedLog most l n) (y : AcceptedLog most k m) (q : x .numbers ≡ y .numbers)
-    (e : SameContainers (tapOf start (x .calls)) (tapOf start (y .calls))) where
+module _ (l k : List ℕ) (n m : ℕ) (x : AcceptedLog l n) (y : AcceptedLog k m) (q : x .begun .numbers ≡ y .begun .numbers)
+    (e : SameContainers (tapOf start (x .begun .calls)) (tapOf start (y .begun .calls))) where
   logs-alike : SameEnd (lastLedger x) (lastLedger y)
   logs-alike =
-      let f = getD (x .numbers) 0 0 in
-      let a = receiverAt (x .numbers) 1 in
-      let b = receiverAt (x .numbers) 17 in
-      let s = ran f a b (x .valid) start (x .calls) (x .accepted) in
-      let t = ran f a b (x .valid) start (y .calls) (rw q (y .accepted)) in
+      let f = getD (x .begun .numbers) 0 0 in
+      let a = receiverAt (x .begun .numbers) 1 in
+      let b = receiverAt (x .begun .numbers) 17 in
+      let s = ran f a b (valid-by (x .begun)) start (x .begun .calls) (x .begun .accepted) in
+      let t = ran f a b (valid-by (x .begun)) start (y .begun .calls) (rw q (y .begun .accepted)) in
       let c : SameTraffic f a b (s .0) (t .0) = λ d. ap (containersOf d) (s .2) ∙ e d ∙ sym (ap (containersOf d) (t .2)) in
-      let z = t .1 ∙ ap (λ (ns : List ℕ). behind (ledgerOf ns) (y .calls)) q in
-      subst (λ (g : Ledger). SameEnd g (lastLedger y)) (s .1) (subst (SameEnd (after (auditorOf f a b) (s .0))) z (ends-alike f a b (x .valid) (s .0) (t .0) c))
+      let z = t .1 ∙ ap (λ (ns : List ℕ). behind (ledgerOf ns) (y .begun .calls)) q in
+      subst (λ (g : Ledger). SameEnd g (lastLedger y)) (s .1) (subst (SameEnd (after (auditorOf f a b) (s .0))) z (ends-alike f a b (valid-by (x .begun)) (s .0) (t .0) c))
 
   pub reports-alike : (d p : ℕ)
       → (heldIn (reported (lastLedger x) d p) ≡ heldIn (reported (lastLedger y) d p)) × (openIn (reported (lastLedger x) d p) ≡ openIn (reported (lastLedger y) d p))

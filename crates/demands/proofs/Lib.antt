@@ -7,7 +7,6 @@ pub mod Packing
 pub mod TapLaws
 pub mod LinkRuleLaws
 pub mod Books
-pub mod LogRefused
 pub mod LogTap
 pub mod Interleaving
 pub mod Service

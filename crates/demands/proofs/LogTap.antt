@@ -1,37 +1,52 @@
--- An accepted log is the tap record of some history, and a log that is refused by a reading or pool cause is not, with the refused entry.
--- Assumes nothing.
+-- An accepted log is the tap record of some history, and so is what is accepted before a refusal; a log that is refused by a reading or
+-- pool cause is not, with the refused entry. Assumes nothing.
 use Prim.Native.Nat.{ℕ, _<_}
 use native.Mathlib.Omega.{arith}
 use mathlib.Core.Path.{_≡_, refl, sym, ap, subst, _∙_}
 use mathlib.Core.Bool.{true}
-use mathlib.Core.List.{List, [], _∷_}
+use mathlib.Core.List.{List, [], _∷_, _++_}
+use mathlib.Core.Logic.{⊎-elim, inl, inr}
 use mathlib.Core.Option.{Option, some}
-use lib.ListN.{getD}
+use lib.ListN.{getD, drop}
 use Rattle.lists.proofs.Tests.{never-both}
 use Rattle.cause.specs.declared.Cause.{Cause}
 use Rattle.ledger.specs.Audit.{configured, auditing}
 use Rattle.ledger.specs.Log.{receiverAt}
-use Rattle.ledger.specs.Calls.{AllAccepted, AcceptedLog}
+use Rattle.ledger.specs.Calls.{AllAccepted, behind}
 use Rattle.ledger.specs.Calls as log
+use Rattle.ledger.specs.LogRules.{ConfigurationFault, Enters, entryOf}
+use Rattle.ledger.specs.LogRules.Enters.{none, next}
+use Rattle.ledger.specs.WholeLog.{BegunLog, RefusedLog}
 use Rattle.ledger.specs.declared.receiver.Receiver.{Receiver}
 use Rattle.ledger.specs.declared.ledger.Ledger.{Ledger}
 use Rattle.ledger.specs.declared.ledger.Answer.the-variants.{Refused}
+use Rattle.ledger.proofs.ValidLedgerLaws.{configured-exactly}
+use Rattle.ledger.proofs.WholeLogLaws.{accepted-only, begun-before, refused-only}
 use Rattle.history.specs.Trace.{Trace, start, _▷_, whole}
 use Rattle.history.specs.Link.{Direction, directionOf, Link}
 use Rattle.history.specs.History.{Entry, Tapped}
 use Rattle.history.specs.Calls.{Call, Auditor, note, after, accepted, Admits}
-use Rattle.demands.specs.Tap.{linkOf, accepting, auditorOf}
-use Rattle.demands.specs.LogTap.{tapOf, linkAt, LogTapped, behind, Begins, last, before, RefusedLog, LogNotTapped, LogDemand}
-use Rattle.ledger.specs.Stream.{most}
-use Rattle.ledger.proofs.AcceptedTheorem.{accepted-only}
 use Rattle.history.proofs.Calls.{direction-is}
+use Rattle.demands.specs.Tap.{linkOf, accepting, auditorOf}
+use Rattle.demands.specs.LogTap.{tapOf, linkAt, LogTapped, LogNotTapped, LogDemand}
 use Rattle.demands.proofs.Books.{of-number, demand3}
-use Rattle.demands.proofs.LogRefused.{refused-only}
 
--- the refused entry has a direction
-last-side : {es : List log.Entry} {x : log.Entry} {l : List ℕ} → Begins es x l → x .direction < 2
-last-side (last v u g h) = omega arith
-last-side (before v u g h b) = last-side b
+-- the entries of a log have a direction
+abbrev Sided : List log.Entry → Type 0
+Sided [] = Unit {0}
+Sided (e ∷ es) = (e .direction < 2) × Sided es
+
+sided-more : (es : List log.Entry) (e : log.Entry) → Sided es → e .direction < 2 → Sided (es ++ (e ∷ []))
+sided-more [] e h d = (d, tt)
+sided-more (x ∷ es) e h d = (h .0, sided-more es e (h .1) d)
+
+last-sided : (es : List log.Entry) (e : log.Entry) → Sided (es ++ (e ∷ [])) → e .direction < 2
+last-sided [] e h = h .0
+last-sided (x ∷ es) e h = last-sided es e (h .1)
+
+entries-sided : {l : List ℕ} {es : List log.Entry} {n : ℕ} → Enters l es n → Sided es
+entries-sided none = tt
+entries-sided {l} (next {es} {n} v u f g h) = sided-more es (entryOf (drop n l) v u) (entries-sided f) (omega arith)
 
 module _ (f : ℕ) (a b : Receiver) (v : configured f a b ≡ true) where
   abbrev K : Link
@@ -78,23 +93,29 @@ module _ (f : ℕ) (a b : Receiver) (v : configured f a b ≡ true) where
       let y : U .audit (after U ys) x .accepts ≡ true = demand3 .books-close f a b v (ys ▷ x) .accepts-exactly ys x (whole refl) .1 (d .0, d .1, w) in
       never-both (ap accepting e) y
 
-pub log-tapped : (limit : ℕ) (l : List ℕ) (n : ℕ) (a : AcceptedLog limit l n) → LogTapped limit l n a
-log-tapped limit l n a =
-    all-more (getD (a .numbers) 0 0) (receiverAt (a .numbers) 1) (receiverAt (a .numbers) 17) (a .valid) start (a .calls) (a .accepted) (start, tt, refl)
+module _ {l : List ℕ} {n : ℕ} (a : BegunLog l n) where
+  pub valid-by : configured (getD (a .numbers) 0 0) (receiverAt (a .numbers) 1) (receiverAt (a .numbers) 17) ≡ true
+  valid-by = configured-exactly (getD (a .numbers) 0 0) (receiverAt (a .numbers) 1) (receiverAt (a .numbers) 17) .1 (a .valid)
 
-pub log-not-tapped : (l : List ℕ) (n : ℕ) (k : Cause) (p : ℕ) (a : RefusedLog l n k p) → LogNotTapped l n k p a
+  pub log-tapped : LogTapped a
+  log-tapped =
+      all-more (getD (a .numbers) 0 0) (receiverAt (a .numbers) 1) (receiverAt (a .numbers) 17) valid-by start (a .calls) (a .accepted) (start, tt, refl)
+
+log-not-tapped : (l : List ℕ) (n : ℕ) (k : Cause) (p : ℕ) (a : RefusedLog l n k p) → LogNotTapped a
 log-not-tapped l n k p a t =
-    let f = getD (a .numbers) 0 0 in
-    let r0 = receiverAt (a .numbers) 1 in
-    let r1 = receiverAt (a .numbers) 17 in
-    let r = ran f r0 r1 (a .valid) start (a .calls) (a .accepted) in
-    let x : Call (List ℕ) = record { number = a .next .direction; container = a .next .container } in
-    none-more f r0 r1 (a .valid) (r .0) x (last-side (a .encoded)) k p
+    let x = a .begun in
+    let f = getD (x .numbers) 0 0 in
+    let r0 = receiverAt (x .numbers) 1 in
+    let r1 = receiverAt (x .numbers) 17 in
+    let r = ran f r0 r1 (valid-by x) start (x .calls) (x .accepted) in
+    let y : Call (List ℕ) = record { number = a .next .direction; container = a .next .container } in
+    none-more f r0 r1 (valid-by x) (r .0) y (last-sided (x .calls) (a .next) (entries-sided (a .front))) k p
     (ap (λ (s : Ledger). auditing s (a .next .direction) (a .next .container) .answer) (r .1) ∙ a .refused)
-    (subst (λ (t : Trace (Entry (List ℕ))). Tapped (linkAt (a .numbers)) (note t (directionOf (a .next .direction)) (a .next .container))) (sym (r .2)) t)
+    (subst (λ (t : Trace (Entry (List ℕ))). Tapped (linkAt (x .numbers)) (note t (directionOf (a .next .direction)) (a .next .container))) (sym (r .2)) t)
 
 pub log-demand : LogDemand
 log-demand = record {
-  accepted = λ l n e. let a = accepted-only most l n e in (a, log-tapped most l n a);
-  refused = λ l n k p f e. let a = refused-only most l n k p f e in (a, log-not-tapped l n k p a);
+  accepted = λ l n e. let a = accepted-only l n e in (a, log-tapped (a .begun));
+  before = λ l n k p e. ⊎-elim (λ (f : ConfigurationFault l k p × (n ≡ 0)). inl f) (λ (a : BegunLog l n). inr (a, log-tapped a)) (begun-before l n k p e);
+  refused = λ l n k p f e. let a = refused-only l n k p e f in (a, log-not-tapped l n k p a);
 }

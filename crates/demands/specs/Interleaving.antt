@@ -6,9 +6,9 @@ use mathlib.Core.List.{List, [], _∷_}
 use Rattle.cause.specs.declared.Cause.the-variants.{BegunOverGranted}
 use Rattle.ledger.specs.Audit.{configured, auditing, freshLedger, reported}
 use Rattle.ledger.specs.Log.{ledgerOf}
-use Rattle.ledger.specs.Stream.{most}
-use Rattle.ledger.specs.Calls.{AllAccepted, AcceptedLog}
+use Rattle.ledger.specs.Calls.{AllAccepted, behind}
 use Rattle.ledger.specs.Calls as log
+use Rattle.ledger.specs.WholeLog.{AcceptedLog}
 use Rattle.ledger.specs.declared.receiver.Receiver.{Receiver}
 use Rattle.ledger.specs.declared.ledger.Ledger.{Ledger}
 use Rattle.ledger.specs.declared.ledger.Answer.the-variants.{Refused}
@@ -16,7 +16,7 @@ use Rattle.history.specs.Trace.{Trace, start}
 use Rattle.history.specs.Calls.{Call, after, accepted}
 use Rattle.history.specs.Interleaving.{SameContainers}
 use Rattle.demands.specs.Tap.{heldIn, openIn, auditorOf}
-use Rattle.demands.specs.LogTap.{tapOf, behind}
+use Rattle.demands.specs.LogTap.{tapOf}
 use Rattle.demands.specs.Marked.{withBytes, receiverWith, grantsResponses, grantsData, dataAtG9}
 
 -- "the same credits held, open messages and carries in every pool", field by field
@@ -33,8 +33,8 @@ abbrev pub SameTraffic : ℕ → Receiver → Receiver → Trace (Call (List ℕ
 SameTraffic f a b xs ys = SameContainers (accepted (auditorOf f a b) xs) (accepted (auditorOf f a b) ys)
 
 -- the ledger behind an accepted log
-abbrev pub lastLedger : {l : List ℕ} {n : ℕ} → AcceptedLog most l n → Ledger
-lastLedger x = behind (ledgerOf (x .numbers)) (x .calls)
+abbrev pub lastLedger : {l : List ℕ} {n : ℕ} → AcceptedLog l n → Ledger
+lastLedger x = behind (ledgerOf (x .begun .numbers)) (x .begun .calls)
 
 pub record Interleaving : Type 0 where
   -- "take two accepted records with the same configuration, no Activation messages, and the same containers in the same order within each
@@ -46,8 +46,8 @@ pub record Interleaving : Type 0 where
   pub same-answer : (f : ℕ) (a b : Receiver) → configured f a b ≡ true → (xs ys : Trace (Call (List ℕ))) → SameTraffic f a b xs ys
       → (d : ℕ) (c : List ℕ) → auditing (after (auditorOf f a b) xs) d c .answer ≡ auditing (after (auditorOf f a b) ys) d c .answer
   -- two accepted logs of one configuration, whose entries agree within each direction, end with the same report for each direction and pool
-  pub same-report : (l k : List ℕ) (n m : ℕ) (x : AcceptedLog most l n) (y : AcceptedLog most k m) → x .numbers ≡ y .numbers
-      → SameContainers (tapOf start (x .calls)) (tapOf start (y .calls)) → (d p : ℕ)
+  pub same-report : (l k : List ℕ) (n m : ℕ) (x : AcceptedLog l n) (y : AcceptedLog k m) → x .begun .numbers ≡ y .begun .numbers
+      → SameContainers (tapOf start (x .begun .calls)) (tapOf start (y .begun .calls)) → (d p : ℕ)
       → (heldIn (reported (lastLedger x) d p) ≡ heldIn (reported (lastLedger y) d p)) × (openIn (reported (lastLedger x) d p) ≡ openIn (reported (lastLedger y) d p))
 
 -- in format X: direction 1 grants shared DAT and then RSP, and direction 0 starts a DataS that pays with the first

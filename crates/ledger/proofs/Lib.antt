@@ -36,9 +36,9 @@ pub mod SettingValid
 pub mod LogCalls
 pub mod CutTheorem
 pub mod AgainTheorem
-pub mod AcceptedTheorem
 pub mod NumberRuleLaws
 pub mod LogRuleLaws
+pub mod WholeLogLaws
 pub mod MarkedLogs
 pub mod EntryFaults
 pub mod AuditFaults

@@ -19,7 +19,7 @@ use Rattle.record.specs.Number.{readNumber}
 use Rattle.record.specs.declared.number.Number.{Number}
 use Rattle.record.specs.declared.number.Number.the-variants.{Broken, Value}
 use Rattle.ledger.specs.Audit.{auditing}
-use Rattle.ledger.specs.Log.{Setting, wrong, set-up, settingOf, over, nextOf, framed, judged, judgedAt}
+use Rattle.ledger.specs.Log.{Setting, wrong, set-up, settingOf, over, onward, nextOf, framed, judged, judgedAt}
 use Rattle.ledger.specs.Stream.{most, whole, settled, ready, closing, stoppedAt, stepped, readFrom, started, startBy, beginning, Running, validState, consuming}
 use Rattle.ledger.specs.Calls.{Entry, AllAccepted, behind}
 use Rattle.ledger.specs.LogRules.{entryOf, Enters, Enough, Says, passed, Goes, ValidLog, Consumes}
@@ -44,7 +44,6 @@ use Rattle.ledger.proofs.LogStates.{running-valid, valid-running}
 use Rattle.ledger.proofs.LogLoops.{begin-ended, begin-short, begin-long}
 use Rattle.ledger.proofs.LogCalls.{call-bad, call-start, call-running}
 use Rattle.ledger.proofs.CutTheorem.{full-stop, empty-stop, closing-empty, closing-few, closing-full}
-use Rattle.ledger.proofs.AcceptedTheorem.{next-takes}
 
 -- ---- an entry that can be judged
 
@@ -87,6 +86,14 @@ module _ (s : Ledger) (e o : ℕ) (l : List ℕ) where
         → nextOf s e o l ≡ over (Refused e k p)
     unfolding nextOf
     next-refused k p h q =
+        ap (λ (r : Number). framed s e o l r) g
+        ∙ ap (λ (t : Bool). pick t (over (Refused e BrokenRecord o)) (judgedAt s e (v % 2) l u)) (le-ltb (length l) (u + 256) h)
+        ∙ ap (λ (a : Answer). judged e (u + 256) (auditing s (v % 2) (take 256 (drop u l)) .ledger) a) q
+
+    next-takes : u + 256 ≤ length l → auditing s (v % 2) (take 256 (drop u l)) .answer ≡ answer.Accepted
+        → nextOf s e o l ≡ onward (auditing s (v % 2) (take 256 (drop u l)) .ledger) (u + 256)
+    unfolding nextOf
+    next-takes h q =
         ap (λ (r : Number). framed s e o l r) g
         ∙ ap (λ (t : Bool). pick t (over (Refused e BrokenRecord o)) (judgedAt s e (v % 2) l u)) (le-ltb (length l) (u + 256) h)
         ∙ ap (λ (a : Answer). judged e (u + 256) (auditing s (v % 2) (take 256 (drop u l)) .ledger) a) q

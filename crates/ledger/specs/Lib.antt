@@ -11,4 +11,5 @@ pub mod Cutting
 pub mod Calls
 pub mod RunRules
 pub mod LogRules
+pub mod WholeLog
 pub mod Faults

@@ -14,6 +14,10 @@ use container::Grant;
 use message::Class;
 use message::classify_message;
 
+// The dedicated DAT pools: of DataS and DataL, and of push data.
+const DATA_POOL: u64 = 12;
+const PUSH_POOL: u64 = 13;
+
 // Its planes, whether it takes push data, and the capacities of its pools.
 pub struct Receiver {
     pub planes: u32,
@@ -97,7 +101,7 @@ impl Receiver {
         if first / 16 % 2 == 1 {
             return Verdict::Sound;
         }
-        Verdict::Faulty(Cause::MissingPool, 12)
+        Verdict::Faulty(Cause::MissingPool, DATA_POOL)
     }
 
     // The DAT pool of push data, by byte 1.
@@ -112,7 +116,7 @@ impl Receiver {
                 return Verdict::Sound;
             }
         }
-        Verdict::Faulty(Cause::MissingPool, 13)
+        Verdict::Faulty(Cause::MissingPool, PUSH_POOL)
     }
 
     // Whether every pool that a message with this byte 0 may need exists.
@@ -177,13 +181,13 @@ impl Receiver {
             if self.push {
                 return Verdict::Sound;
             }
-            return Verdict::Faulty(Cause::MissingPool, 12);
+            return Verdict::Faulty(Cause::MissingPool, DATA_POOL);
         }
         if plane == 1 {
             if self.push {
                 return Verdict::Sound;
             }
         }
-        Verdict::Faulty(Cause::MissingPool, 13)
+        Verdict::Faulty(Cause::MissingPool, PUSH_POOL)
     }
 }
