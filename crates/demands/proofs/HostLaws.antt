@@ -1,5 +1,5 @@
 -- The entries for C answer as the table says, and a refusal leaves every byte lent as it was. Assumes nothing.
-use Prim.Native.Nat.{ℕ, _+_, _*_, _/_, _%_, _≤_, _<_}
+use Prim.Native.Nat.{ℕ, _+_, _*_, _≤_, _<_}
 use mathlib.Core.Path.{_≡_, refl, sym, ap, subst, _∙_}
 use mathlib.Core.Bool.{Bool, true, false, _&&_}
 use mathlib.Core.List.{List, []}
@@ -8,7 +8,7 @@ use native.Mathlib.Omega.{arith}
 use lib.ListN.{length, getD}
 use lib.Dec.{eqb, ltb}
 use borrow.Author.Tests.{eq-eqb, eqb-true, eqb-false, lt-ltb, ltb-true, ltb-false}
-use Rattle.lists.specs.Parts.{IsBytes, put}
+use Rattle.lists.specs.Parts.{IsBytes}
 use Rattle.lists.specs.Pick.{pick}
 use Rattle.lists.proofs.Tests.{cases, never-both, not-true-false, and-left, and-right, and-both, and-false}
 use Rattle.cause.specs.Causes.{causeNumber}
@@ -18,32 +18,25 @@ use Rattle.cause.specs.declared.Cause.the-variants.{InvalidState}
 use Rattle.cause.specs.declared.Verdict.{Verdict}
 use Rattle.cause.specs.declared.Verdict.the-variants.{Sound, Faulty}
 use Rattle.cause.proofs.CauseLaws.{same-number, number-some}
-use Rattle.container.specs.Layout.{formatOf, msgStart}
-use Rattle.container.specs.Grants.{headerGrant}
 use Rattle.container.specs.declared.grant.Grant.{Grant}
-use Rattle.reader.specs.Reading.{readerWith, readChecks, judgeChecks, records, reading, readRoom, judging}
+use Rattle.reader.specs.Reading.{readerWith, readChecks, judgeChecks, reading, readRoom, judging}
 use Rattle.reader.specs.Reading as reads
 use Rattle.reader.specs.declared.reader.Answer as reader
 use Rattle.reader.specs.declared.reader.Answer.the-variants as read
 use Rattle.reader.specs.declared.reader.Judgement.{Judgement}
 use Rattle.reader.specs.declared.reader.Judgement.the-variants as judge
 use Rattle.reader.proofs.PlaceLaws.{refused-place, judged-place}
-use Rattle.ledger.specs.Audit.{ledgerOk, configured, freshLedger, opening, reported}
-use Rattle.ledger.specs.Run.{runOver}
+use Rattle.ledger.specs.Audit.{ledgerOk, configured, reported}
 use Rattle.ledger.specs.RunRules.{RunRule}
-use Rattle.ledger.specs.ValidLedger.{ValidLedger, ValidConfiguration}
+use Rattle.ledger.specs.ValidLedger.{ValidLedger}
 use Rattle.ledger.specs.declared.receiver.Receiver.{Receiver}
-use Rattle.ledger.specs.declared.ledger.Ledger.{Ledger}
 use Rattle.ledger.specs.declared.ledger.Answer.the-variants as audit
 use Rattle.ledger.specs.declared.ledger.Reported.the-variants as report
-use Rattle.ledger.specs.declared.ledger.Opened.{Opened}
-use Rattle.ledger.specs.declared.entries.Run.{Run}
 use Rattle.ledger.proofs.RunRuleLaws.{run-follows}
 use Rattle.ledger.proofs.ValidLedgerLaws.{configured-exactly, ledger-exactly}
-use Rattle.writer.specs.Filling.{filling, fillBytes}
+use Rattle.writer.specs.Filling.{fillBytes}
 use Rattle.writer.specs.declared.writer.Answer as writer
 use Rattle.writer.specs.declared.writer.Answer.the-variants as fill
-use Rattle.writer.specs.declared.writer.Step as written
 use Rattle.writer.specs.declared.writer.Writer.{Writer}
 use Rattle.feeder.specs.Feeding.{fedPart}
 use Rattle.feeder.specs.declared.found.Waiting.{Waiting}
@@ -57,10 +50,10 @@ use Rattle.probe.specs.Judge.{judgeCode}
 use Rattle.probe.specs.Judge as judged
 use Rattle.probe.specs.Fill.{grantFrom, writerFrom, answerCode, Small, sized, asked, fillCode, fillTail, fillContainer}
 use Rattle.probe.proofs.FillLaws.{step-small}
-use Rattle.audit_probe.specs.Audit.{receiverFrom, numbersOk, openingFrom, runBy, runFrom, reportBy, reportFrom}
+use Rattle.audit_probe.specs.Audit.{receiverFrom, numbersOk, runFrom, reportFrom}
 use Rattle.reader.specs.Faults.{ReadFault, JudgeFault}
 use Rattle.writer.specs.Faults.{FillFault}
-use Rattle.cause.specs.Order.{rank, Named, None}
+use Rattle.cause.specs.Order.{Named, None}
 use Rattle.demands.specs.Hosts.{Tells, CallFault, Configures, ledgerFrom, Hosts}
 use Rattle.reader.proofs.ReadTable.{read-refused, read-accepted, judge-refused, judge-accepted}
 use Rattle.writer.proofs.FillTable.{fill-refused}

@@ -6,7 +6,6 @@ use mathlib.Core.Bool.{Bool, true, false}
 use mathlib.Core.List.{List, [], _∷_, _++_}
 use lib.ListN.{replicate}
 use Rattle.cause.specs.Causes.{causeNumber}
-use Rattle.container.specs.declared.grant.Grant.{Grant}
 use Rattle.reader.specs.Reading.{readerWith, reading}
 use Rattle.reader.specs.declared.reader.Answer.the-variants as read
 use Rattle.writer.specs.Filling.{writerWith, filling}

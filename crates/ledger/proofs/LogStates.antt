@@ -8,7 +8,7 @@ use lib.ListN.{length, take, drop}
 use lib.Dec.{ltb, leb, eqb}
 use borrow.Author.Tests.{leb-true, le-leb, ne-eqb}
 use Rattle.lists.specs.Pick.{pick}
-use Rattle.lists.proofs.Tests.{and-left, and-right, and-both}
+use Rattle.lists.proofs.Tests.{and-left, and-right}
 use Rattle.lists.proofs.PickLaws.{pick-both}
 use Rattle.cause.specs.Checks.{firstFault, whenSound}
 use Rattle.cause.specs.declared.Verdict.{Verdict}

@@ -1,13 +1,11 @@
 -- Entries audited one after the other, step by step. Assumes nothing.
 use Prim.Native.Nat.{ℕ, zero, suc, _+_, _-_, _*_, _≤_, _<_}
 use mathlib.Core.Path.{_≡_, refl, sym, ap, _∙_}
-use mathlib.Core.Bool.{true, false}
+use mathlib.Core.Bool.{true}
 use mathlib.Core.List.{List}
 use native.Mathlib.Omega.{arith}
 use lib.ListN.{length, getD, take, drop, length-take, length-drop}
-use lib.Dec.{ltb}
 use borrow.Author.Tests.{le-leb, lt-leb, le-ltb}
-use Rattle.lists.proofs.Tests.{and-false}
 use Rattle.cause.specs.declared.Cause.{Cause}
 use Rattle.cause.specs.declared.Cause.the-variants.{BrokenRecord, InvalidState}
 use Rattle.ledger.specs.Audit.{ledgerOk, auditing, auditChecks}

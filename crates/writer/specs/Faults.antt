@@ -5,9 +5,7 @@ use mathlib.Core.Bool.{true}
 use mathlib.Core.List.{List, _++_}
 use mathlib.Core.Logic.{_⊎_}
 use lib.ListN.{length}
-use Rattle.container.specs.Layout.{header}
 use Rattle.container.specs.declared.grant.Grant.{Grant}
-use Rattle.message.specs.HeadRules.{byte, type}
 use Rattle.record.specs.Records.{recordOf, recordsOf, AllMessages}
 use Rattle.message.specs.Heads.{isMessage}
 use Rattle.writer.specs.ValidWriter.{ValidWriter}
