@@ -16,6 +16,7 @@ use message::classify_message;
 
 // The dedicated DAT pools: of DataS and DataL, and of push data.
 const DATA_POOL: u64 = 12;
+
 const PUSH_POOL: u64 = 13;
 
 // Its planes, whether it takes push data, and the capacities of its pools.
