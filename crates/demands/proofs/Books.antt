@@ -1,4 +1,4 @@
--- Demand 3: the bench's audit simulates the audit of its link, so its books close. Assumes nothing.
+-- The bench's audit simulates the audit of its link, so its books close. Assumes nothing.
 use Prim.Native.Nat.{ℕ, zero, suc, _+_, _-_, _*_, _≤_, _<_}
 use mathlib.Core.Path.{_≡_, refl, sym, ap, subst, _∙_}
 use mathlib.Core.Bool.{Bool, true, false, _&&_}
@@ -14,13 +14,15 @@ use Rattle.cause.specs.Checks.{Pass, firstFault, whenSound}
 use Rattle.cause.specs.declared.Verdict.{Verdict}
 use Rattle.cause.specs.declared.Verdict.the-variants.{Sound, Faulty}
 use Rattle.message.specs.Charges.{charges}
-use Rattle.reader.specs.Reading.{carried, readerOk, readerWith, nextReader, records}
+use Rattle.reader.specs.Reading.{carried, readerOk, readerWith, nextReader}
 use Rattle.reader.specs.declared.reader.Reader.{Reader}
 use Rattle.ledger.specs.Pools.{receiverOk, messageChecks, allMessages, allGrants, chargedTo, paidTo, grantedTo}
 use Rattle.ledger.specs.Audit.{receiverOf, readerOf, heldOf, openOf, passes, ledgerOk, configured, freshLedger, begun, finished, granted, auditChecks, nextLedger, answerOf, auditing, reported}
 use Rattle.ledger.specs.Audit as audit
 use Rattle.ledger.specs.declared.receiver.Receiver.{Receiver}
 use Rattle.ledger.specs.declared.ledger.Ledger.{Ledger}
+use Rattle.ledger.specs.declared.kinds.Credits.{Credits}
+use Rattle.ledger.specs.declared.kinds.Slots.{Slots}
 use Rattle.ledger.specs.declared.ledger.Reported.the-variants.{Counted}
 use Rattle.ledger.proofs.ValidLaws.{ValidDirection, ledger-valid, valid-ledger}
 use Rattle.ledger.proofs.AcceptedLaws.{Accepted, accepted-by, accepted-sound, held-own, held-other, open-own, open-other, reader-own, reader-other, receivers-kept, next-ledger-valid}
@@ -31,13 +33,11 @@ use Rattle.history.specs.Audit.{fitsBelow, equalBelow, directionOk, creditsPaid
 use Rattle.history.specs.Audit as link
 use Rattle.history.specs.Trace.{Trace, start, _▷_}
 use Rattle.history.specs.Calls.{Call, after}
+use Rattle.history.specs.Demand.{Closed}
 use Rattle.history.proofs.Below.{below-fits, fits-below, below-equal, equal-below}
 use Rattle.history.proofs.Calls.{Simulates}
 use Rattle.history.proofs.Demand.{books-close}
-use Rattle.history.proofs.DelayLaws.{delays}
 use Rattle.demands.specs.Tap.{startsIn, endsIn, grantsOf, receiverFor, linkOf, accepting, heldIn, openIn, auditorOf}
-use Rattle.demands.specs.Demand3.{Demand3}
-use Rattle.demands.proofs.LinkRuleLaws.{link-rules}
 use Rattle.demands.proofs.TapLaws.{reads-by, by-reads, passes-sound, receiver-valid, lawful}
 
 -- ---- directions and numbers
@@ -405,12 +405,11 @@ calls-valid : (f : ℕ) (a b : Receiver) → configured f a b ≡ true → (xs :
 calls-valid f a b v start = fresh-valid f a b v
 calls-valid f a b v (xs ▷ x) = audit-keeps (after (auditorOf f a b) xs) (x .number) (x .container) (calls-valid f a b v xs)
 
-pub demand3 : Demand3
-unfolding records
-demand3 = record {
-  books-close = λ f a b v xs. books-close (linkOf f a b) (lawful f a b v) (auditorOf f a b) (Related f a b v) (simulates f a b v) xs;
-  reports = λ f a b v xs d p h. (_, _, reported-counts (after (auditorOf f a b) xs) (numberOf d) p (number-below d) (calls-valid f a b v xs) h);
-  rules = link-rules;
-  delays = λ f a b. delays (linkOf f a b);
-  handed-out = λ s c. refl;
-}
+-- the books close over every list of calls
+pub closed : (f : ℕ) (a b : Receiver) → configured f a b ≡ true → (xs : Trace (Call (List ℕ))) → Closed (linkOf f a b) (auditorOf f a b) xs
+closed f a b v xs = books-close (linkOf f a b) (lawful f a b v) (auditorOf f a b) (Related f a b v) (simulates f a b v) xs
+
+-- and no report of theirs is refused
+pub reports : (f : ℕ) (a b : Receiver) → configured f a b ≡ true → (xs : Trace (Call (List ℕ))) (d : Direction) (p : ℕ) → p < 14
+    → (held : Credits) × (opened : Slots) × (reported (after (auditorOf f a b) xs) (numberOf d) p ≡ Counted held opened)
+reports f a b v xs d p h = (_, _, reported-counts (after (auditorOf f a b) xs) (numberOf d) p (number-below d) (calls-valid f a b v xs) h)

@@ -2,12 +2,12 @@ pub mod FormatTable
 pub mod TableLaws
 pub mod Refusals
 pub mod HostLaws
-pub mod Demands
 pub mod Packing
 pub mod TapLaws
 pub mod LinkRuleLaws
 pub mod Books
 pub mod LogTap
+pub mod Demands
 pub mod Interleaving
 pub mod Service
 pub mod Examples

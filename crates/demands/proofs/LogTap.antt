@@ -29,7 +29,7 @@ use Rattle.history.specs.Calls.{Call, Auditor, note, after, accepted, Admits}
 use Rattle.history.proofs.Calls.{direction-is}
 use Rattle.demands.specs.Tap.{linkOf, accepting, auditorOf}
 use Rattle.demands.specs.LogTap.{tapOf, linkAt, LogTapped, LogNotTapped, LogDemand}
-use Rattle.demands.proofs.Books.{of-number, demand3}
+use Rattle.demands.proofs.Books.{of-number, closed}
 
 -- the entries of a log have a direction
 abbrev Sided : List log.Entry → Type 0
@@ -57,7 +57,7 @@ module _ (f : ℕ) (a b : Receiver) (v : configured f a b ≡ true) where
 
   -- a call that is accepted behind a tap record makes one again
   one-more : (xs : Trace (Call (List ℕ))) (x : Call (List ℕ)) → U .audit (after U xs) x .accepts ≡ true → Tapped K (note (accepted U xs) (directionOf (x .number)) (x .container))
-  one-more xs x e = by (demand3 .books-close f a b v (xs ▷ x) .accepts-exactly xs x (whole refl) .0 e)
+  one-more xs x e = by (closed f a b v (xs ▷ x) .accepts-exactly xs x (whole refl) .0 e)
     where
       by : Admits (Tapped K) (accepted U xs) x → Tapped K (note (accepted U xs) (directionOf (x .number)) (x .container))
       by h =
@@ -90,7 +90,7 @@ module _ (f : ℕ) (a b : Receiver) (v : configured f a b ≡ true) where
       let d = of-number (x .number) h in
       let q : directionOf (x .number) ≡ some (d .0) = direction-is (x .number) (d .0) (d .1) in
       let w : Tapped K (accepted U ys ▷ record { direction = d .0; container = x .container }) = subst (λ (o : Option Direction). Tapped K (note (accepted U ys) o (x .container))) q t in
-      let y : U .audit (after U ys) x .accepts ≡ true = demand3 .books-close f a b v (ys ▷ x) .accepts-exactly ys x (whole refl) .1 (d .0, d .1, w) in
+      let y : U .audit (after U ys) x .accepts ≡ true = closed f a b v (ys ▷ x) .accepts-exactly ys x (whole refl) .1 (d .0, d .1, w) in
       never-both (ap accepting e) y
 
 module _ {l : List ℕ} {n : ℕ} (a : BegunLog l n) where

@@ -17,6 +17,7 @@ use Rattle.history.specs.Calls.{Call, after}
 use Rattle.history.specs.Delays.{Delays}
 use Rattle.history.specs.Demand.{Closed}
 use Rattle.demands.specs.LinkRules.{LinkRules}
+use Rattle.demands.specs.LogTap.{LogDemand}
 use Rattle.demands.specs.Tap.{endsIn, linkOf, auditorOf}
 
 pub record Demand3 : Type 1 where
@@ -33,3 +34,5 @@ pub record Demand3 : Type 1 where
   pub delays : (f : ℕ) (a b : Receiver) → Delays (linkOf f a b)
   -- the messages that end in a container are those that the reader hands out as records
   pub handed-out : (s : Reader) (c : List ℕ) → records s c ≡ recordsOf (endsIn s c)
+  -- "The entries that a log hands to the audit are such a list" (document 01)
+  pub logs : LogDemand

@@ -4,8 +4,8 @@ pub mod Demand1
 pub mod Demand2
 pub mod Tap
 pub mod LinkRules
-pub mod Demand3
 pub mod LogTap
+pub mod Demand3
 pub mod Marked
 pub mod Pinned
 pub mod Beneath

@@ -79,7 +79,8 @@ pub data Says (s : Ledger) (e o : ℕ) (l : List ℕ) (ended : Bool) : Outcome �
   asks : ended ≡ false → (e < most) ⊎ (length l ≡ 0) → length l < 261 → ((v u : ℕ) → readNumber l ≡ Value v u → length l < u + 256)
       → Says s e o l ended More
 
--- the state behind entries of so many bytes: "the state behind the entries accepted before the refused one"
+-- the state behind accepted entries of so many bytes: the old state of the entry that is refused behind them ("A refusal carries its cause
+-- inside the answer, and the old state")
 abbrev pub passed : LogReader → List Entry → ℕ → LogReader
 passed s es n = record { ledger = behind (s .ledger) es; entries = s .entries + length es; offset = s .offset + n }
 
@@ -94,7 +95,7 @@ pub record Goes (s : LogReader) (b : List ℕ) (n : ℕ) (ended : Bool) (r : Con
   pub used : r .used ≡ n + bytes
   pub says : Says (behind (s .ledger) calls) (s .entries + length calls) (s .offset + bytes) (drop (n + bytes) b) ended (r .outcome)
 
--- a valid state: before the configuration nothing is used, and behind it there are as many bytes as it and the entries may have
+-- a valid state: before the configuration nothing is accepted or used, and behind it there are as many bytes as it and the entries may have
 pub data ValidLog (s : LogReader) : Type 0 where
   fresh : s .offset ≡ 0 → s .entries ≡ 0 → ValidLog s
   running : s .entries ≤ most → 33 + 257 * s .entries ≤ s .offset → s .offset ≤ 165 + 261 * s .entries → ValidLedger (s .ledger) → ValidLog s
@@ -103,9 +104,11 @@ pub data ValidLog (s : LogReader) : Type 0 where
 pub data Consumes (s : LogReader) (b : List ℕ) (ended : Bool) : Consumed → Type 0 where
   -- 19 | state not valid | 0
   invalid : (ValidLog s → ⊥) → Consumes s b ended (stoppedAt 0 s (Over (Refused (s .entries) InvalidState 0)))
+  -- the configuration is judged when enough is there
   waits : ValidLog s → s .offset ≡ 0 → (Enough b ended → ⊥) → Consumes s b ended (stoppedAt 0 s More)
   misconfigured : (k : Cause) (p : ℕ) → ValidLog s → s .offset ≡ 0 → Enough b ended → ConfigurationFault b k p
       → Consumes s b ended (stoppedAt 0 s (Over (Refused 0 k p)))
+  -- the entries behind it, and those of a later call
   starts : {r : Consumed} (ns : List ℕ) (n : ℕ) → ValidLog s → s .offset ≡ 0 → Enough b ended → Numbers b ns n → length ns ≡ 33
       → Goes (started ns n) b n ended r → Consumes s b ended r
   goes-on : {r : Consumed} → ValidLog s → 0 < s .offset → Goes s b 0 ended r → Consumes s b ended r

@@ -29,7 +29,8 @@ pub record Entered (s : Ledger) (l : List ℕ) (es : List Entry) (n : ℕ) : Typ
   pub framed : Frames l es n
   pub accepted : AllAccepted s es
 
--- the run behind them: "the state behind the entries accepted before the refused one"
+-- the run behind them: the old state of the entry that is refused behind them ("A refusal carries its cause inside the answer, and the old
+-- state")
 abbrev pub stopped : Ledger → List Entry → Answer → Run
 stopped s es a = record { ledger = behind s es; accepted = length es; answer = a }
 
