@@ -21,7 +21,7 @@ use Rattle.container.specs.declared.grant.Grant.{Grant}
 use Rattle.message.specs.Heads.{typeOf, opOf, classOf, isMisc, miscU, crdtGrant}
 use Rattle.message.specs.Charges.{sharedCrdt, resPlane}
 use Rattle.reader.specs.Cells.{Cell, startings}
-use Rattle.reader.specs.Keeps.{progress}
+use Rattle.reader.proofs.Keeps.{progress}
 use Rattle.reader.specs.Reading.{carried, stateChecks}
 use Rattle.reader.proofs.ProgressLaws.{listFrom, cells-of}
 use Rattle.ledger.specs.PoolRules.{grantIn, capacityOf}

@@ -16,7 +16,7 @@ use Rattle.cause.specs.declared.Cause.the-variants.{ContainerLength, MissingPoo
 use Rattle.container.specs.Layout.{Format, formatOf}
 use Rattle.container.specs.Lawful.{Lawful}
 use Rattle.container.proofs.Formats.{lawful-of}
-use Rattle.reader.specs.Keeps.{cellOf}
+use Rattle.reader.proofs.Keeps.{cellOf}
 use Rattle.reader.specs.Reading.{carryOk, carried}
 use Rattle.reader.proofs.CarryLaws.{reader-ok}
 use Rattle.ledger.specs.Audit.{readerOf, directionOk, ledgerOk, auditing}

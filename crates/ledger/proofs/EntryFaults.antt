@@ -12,7 +12,7 @@ use Rattle.container.specs.Layout.{formatOf}
 use Rattle.container.specs.Grants.{headerGrant}
 use Rattle.message.specs.Heads.{typeOf, opOf, miscU, crdtGrant}
 use Rattle.reader.specs.Cells.{Cell}
-use Rattle.reader.specs.Keeps.{cellOf}
+use Rattle.reader.proofs.Keeps.{cellOf}
 use Rattle.reader.specs.Reading.{carried}
 use Rattle.ledger.specs.PoolRules.{grantIn, capacityOf}
 use Rattle.ledger.specs.Pools.{paidTo, grantedTo}

@@ -28,7 +28,7 @@ use Rattle.record.proofs.RecordLaws.{records-append}
 use Rattle.record.specs.Records.{recordsOf}
 use Rattle.reader.specs.Cells.{Cell, owed, cellAt, message, whole, after, ended, cells, carryAfter, endings}
 use Rattle.reader.specs.Checking.{cellChecks, granuleChecks, groupChecks, activationChecks, containerChecks}
-use Rattle.reader.specs.Keeps.{progress, cellOf, endedTo, KeepsGranule}
+use Rattle.reader.proofs.Keeps.{progress, cellOf, endedTo, KeepsGranule}
 use Rattle.reader.specs.Reading.{carryOk, carried, readerOk, readerWith, stateChecks, judgeChecks, nextReader}
 use Rattle.reader.specs.declared.reader.Reader.{Reader}
 use Rattle.reader.proofs.ProgressLaws.{endings-of}

@@ -14,7 +14,7 @@ use Rattle.message.specs.Heads.{typeOf, opOf, msgSize, wellHeaded, miscU, activ
 use Rattle.message.specs.Places.{placed, responses}
 use Rattle.reader.specs.Cells.{Cell}
 use Rattle.reader.specs.Checking.{used, starting}
-use Rattle.reader.specs.Keeps.{cellOf}
+use Rattle.reader.proofs.Keeps.{cellOf}
 use Rattle.reader.specs.Reading.{readerOk, carried}
 use Rattle.reader.specs.declared.reader.Reader.{Reader}
 

@@ -19,7 +19,7 @@ use Rattle.message.specs.HeadRules.{Bytes}
 use Rattle.message.proofs.HeadLaws.{size-append}
 use Rattle.message.proofs.HeadRuleLaws.{bytes-size, bytes-some, size-bytes}
 use Rattle.reader.specs.Cells.{owed, cellAt, whole, ended, cells, carryAfter}
-use Rattle.reader.specs.Keeps.{progress, cellOf, endedTo, KeepsGranule}
+use Rattle.reader.proofs.Keeps.{progress, cellOf, endedTo, KeepsGranule}
 use Rattle.reader.specs.Reading.{carryOk}
 use Rattle.reader.specs.Rules.{startBit, Origin, There, front, next, full, before, GoesOn}
 use Rattle.reader.specs.Rules.Origin.{carry, at}

@@ -23,7 +23,7 @@ use Rattle.message.specs.Heads.{typeOf, opOf, msgSize, known, wellHeaded, miscU
 use Rattle.message.specs.Places.{placed, miscs, responses}
 use Rattle.reader.specs.Cells.{Cell, cells}
 use Rattle.reader.specs.Checking.{used, cellChecks, granuleChecks, populated, noGap, starting, sumOf, oneMisc, fourResponses, groupChecks, headerChecks, activations, quiet, activationChecks, containerChecks}
-use Rattle.reader.specs.Keeps.{progress, cellOf}
+use Rattle.reader.proofs.Keeps.{progress, cellOf}
 use Rattle.reader.proofs.ProgressLaws.{listFrom, cells-of}
 use Rattle.cause.proofs.NamedLaws.{turnOf}
 use Rattle.reader.proofs.CellFaults.{Filled, StartsMisc, StartsActivation, started, CellFault, reserved, form, inside, unknown, place, head, unused, gap, second, many, beside}

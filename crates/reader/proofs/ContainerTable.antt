@@ -20,7 +20,7 @@ use Rattle.message.specs.Places.{placed}
 use Rattle.message.proofs.HeadRuleLaws.{bytes-size, bytes-some, size-bytes, head-exactly}
 use Rattle.message.proofs.PlaceRuleLaws.{place-exactly}
 use Rattle.reader.specs.Cells.{Cell}
-use Rattle.reader.specs.Keeps.{progress, cellOf, KeepsGranule}
+use Rattle.reader.proofs.Keeps.{progress, cellOf, KeepsGranule}
 use Rattle.reader.specs.Reading.{carryOk}
 use Rattle.reader.specs.Rules.{startBit, Starts, Origin, GoesOn, Populated}
 use Rattle.reader.proofs.OccupyLaws.{Follow, follow-to, goes-exactly}

@@ -21,7 +21,7 @@ use Rattle.message.specs.Heads.{msgSize, known, wellHeaded, isMisc, activation}
 use Rattle.message.specs.Places.{placed, miscs, responses}
 use Rattle.reader.specs.Cells.{Cell, cells}
 use Rattle.reader.specs.Checking.{used, cellChecks, granuleChecks, populated, noGap, starting, sumOf, oneMisc, fourResponses, groupChecks, activations, quiet, activationChecks, containerChecks}
-use Rattle.reader.specs.Keeps.{progress, cellOf, KeepsGranule, KeepsGroup, NoCounts, Keeps}
+use Rattle.reader.proofs.Keeps.{progress, cellOf, KeepsGranule, KeepsGroup, NoCounts, Keeps}
 use Rattle.reader.proofs.ProgressLaws.{listFrom, cells-of}
 
 -- ---- tests as statements

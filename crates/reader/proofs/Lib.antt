@@ -1,3 +1,4 @@
+pub mod Keeps
 pub mod ProgressLaws
 pub mod KeepsLaws
 pub mod CarryLaws

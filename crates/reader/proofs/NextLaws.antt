@@ -18,7 +18,7 @@ use Rattle.container.specs.Layout.{Format, formatOf, msgStart}
 use Rattle.record.specs.Records.{recordsOf}
 use Rattle.reader.specs.Cells.{cells, carryAfter, endings}
 use Rattle.reader.specs.Checking.{granuleChecks}
-use Rattle.reader.specs.Keeps.{progress}
+use Rattle.reader.proofs.Keeps.{progress}
 use Rattle.reader.specs.Reading.{readerOk, carryOk, carried, stateChecks, nextReader, records}
 use Rattle.reader.specs.Tracking.{trackOf, trackAt, inProgress, Begun, Looked}
 use Rattle.reader.specs.declared.reader.Reader.{Reader}

@@ -6,7 +6,7 @@ use native.Mathlib.Omega.{arith}
 use native.Mathlib.Numerals.{add-one}
 use Rattle.container.specs.Layout.{Format}
 use Rattle.reader.specs.Cells.{Cell, cellAt, after, ended, cells, carryAfter, endings}
-use Rattle.reader.specs.Keeps.{progress, cellOf, endedTo}
+use Rattle.reader.proofs.Keeps.{progress, cellOf, endedTo}
 
 -- f g, f (g + 1), .., k of them
 unfoldable pub listFrom : {A : Type 0} → (ℕ → A) → ℕ → ℕ → List A

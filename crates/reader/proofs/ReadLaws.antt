@@ -14,7 +14,7 @@ use Rattle.cause.proofs.CheckLaws.{pass-sound, sound-pass}
 use Rattle.container.specs.Layout.{formatOf, msgStart}
 use Rattle.container.specs.Grants.{headerGrant}
 use Rattle.container.specs.declared.grant.Grant.{Grant}
-use Rattle.reader.specs.Keeps.{Keeps}
+use Rattle.reader.proofs.Keeps.{Keeps}
 use Rattle.reader.specs.Reading.{carried, readerOk, stateChecks, judgeChecks, readChecks, records, answerOf, reading, judgementOf, judging}
 use Rattle.reader.specs.declared.reader.Reader.{Reader}
 use Rattle.reader.specs.declared.reader.Answer.the-variants as answer

@@ -20,7 +20,7 @@ use Rattle.message.specs.HeadRules.{byte}
 use Rattle.message.proofs.HeadRuleLaws.{bytes-size, size-bytes, head-exactly}
 use Rattle.record.specs.Records.{recordsOf}
 use Rattle.reader.specs.Cells.{cells, carryAfter}
-use Rattle.reader.specs.Keeps.{Keeps, endedTo}
+use Rattle.reader.proofs.Keeps.{Keeps, endedTo}
 use Rattle.reader.specs.Reading.{carryOk, carried, readerOk, records, nextReader, reading, readRoom, judging}
 use Rattle.reader.specs.Rules.{Rules}
 use Rattle.reader.specs.Completion.{CarryEnds}

@@ -19,7 +19,7 @@ use Rattle.message.proofs.HeadRuleLaws.{bytes-size, bytes-some, size-bytes, hea
 use Rattle.message.proofs.PlaceRuleLaws.{place-exactly}
 use Rattle.reader.specs.Cells.{Cell, owed, cellAt}
 use Rattle.reader.specs.Checking.{used, populated, starting}
-use Rattle.reader.specs.Keeps.{progress, cellOf, KeepsGranule, KeepsGroup, Keeps}
+use Rattle.reader.proofs.Keeps.{progress, cellOf, KeepsGranule, KeepsGroup, Keeps}
 use Rattle.reader.specs.Reading.{carryOk}
 use Rattle.reader.specs.Rules.{startBit, Starts, Origin, GoesOn, Populated, Unused, rest, last, empty, GranuleRules, GroupRules, Rules}
 use Rattle.reader.proofs.OccupyLaws.{Follow, follow, on-goes, goes-on, goes-twenty, granule-sized}

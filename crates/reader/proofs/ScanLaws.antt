@@ -19,7 +19,7 @@ use Rattle.container.specs.Layout.{Format, formatOf, wide, granule, msgStart, b
 use Rattle.message.specs.Heads.{msgSize}
 use Rattle.reader.specs.Cells.{Cell, owed, cells}
 use Rattle.reader.specs.Checking.{starting, startsAlone, startKnown, startPlaced, startHeaded, restZero, cellChecks, granuleChecks}
-use Rattle.reader.specs.Keeps.{progress, cellOf}
+use Rattle.reader.proofs.Keeps.{progress, cellOf}
 use Rattle.reader.specs.Tracking.{trackOf, trackBy, trackAfter, trackAt, markOf, marksOf, cellFrom, findingOf, finding, Scanned, Begun}
 use Rattle.reader.specs.declared.track.Track.{Track}
 use Rattle.reader.specs.declared.cell.Finding.{Finding}

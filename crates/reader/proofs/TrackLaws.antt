@@ -18,7 +18,7 @@ use Rattle.container.proofs.Formats.{granule-length}
 use Rattle.message.specs.Heads.{typeOf, opOf, msgSize, wellHeaded}
 use Rattle.message.proofs.HeadLaws.{size-append, size-of, size-most}
 use Rattle.reader.specs.Cells.{Cell, owed, cellAt, whole, after, ended}
-use Rattle.reader.specs.Keeps.{progress}
+use Rattle.reader.proofs.Keeps.{progress}
 use Rattle.reader.specs.Reading.{carryOk}
 use Rattle.reader.specs.Tracking.{noTrack, trackOf, trackAfter, trackAt, gathered, gatheredMessage, inProgress, endedBy, Ending, Begun}
 use Rattle.reader.specs.declared.track.Track.{Track}

@@ -12,7 +12,7 @@ use Rattle.lists.proofs.PartLaws.{length-put}
 use Rattle.container.specs.Layout.{Format, formatOf, msgStart}
 use Rattle.record.specs.Records.{recordsOf}
 use Rattle.reader.specs.Cells.{cells, endings, ended}
-use Rattle.reader.specs.Keeps.{progress, cellOf, endedTo}
+use Rattle.reader.proofs.Keeps.{progress, cellOf, endedTo}
 use Rattle.reader.specs.Reading.{carryOk}
 use Rattle.reader.specs.Tracking.{trackOf, trackAfter, trackAt, endedBy, Ending}
 use Rattle.reader.specs.declared.track.Track.{Track}

@@ -1,4 +1,4 @@
--- The packing rules as statements about a container (003, section 3.3.1, as document 01 completes them).
+-- The packing rules made of the tests of the checks, between the checks and the rules in the papers' words.
 use Prim.Native.Nat.{ℕ, zero, suc, _+_, _*_, _≤_, _<_}
 use mathlib.Core.Path.{_≡_}
 use mathlib.Core.Bool.{true}
