@@ -5,17 +5,17 @@ use mathlib.Core.Bool.{Bool, true, false, _&&_, _||_, not}
 use mathlib.Core.List.{List, [], _∷_}
 use mathlib.Core.Logic.{⊎-elim, _↔_}
 use native.Mathlib.Omega.{arith}
-use lib.ListN.{getD, drop, length-take, List·getD-eq-default}
+use lib.ListN.{length, getD, drop, length-take, List·getD-eq-default}
 use lib.Seq.{getD-drop, getD-take}
 use lib.Dec.{T, eqb, ltb, leb, eqb→eq, ltb→lt, lt→ltb, leb→le}
-use borrow.Author.Tests.{lt-ltb, le-leb, eq-eqb, ltb-true}
+use borrow.Author.Tests.{lt-ltb, le-leb, eq-eqb, eqb-true, ltb-true}
 use Rattle.lists.specs.Parts.{part, zeros}
 use Rattle.lists.proofs.Tests.{T-true, true-T, T-left, T-right, and-left, and-right, and-both, or-cases}
 use Rattle.lists.proofs.Order.{lt-or-le}
 use Rattle.lists.proofs.ZeroLaws.{zeros-at, at-zeros}
 use Rattle.container.specs.Grants.{formOk}
-use Rattle.message.specs.Heads.{typeOf, opOf, sizeBy, msgSize, isMisc, flagBound, flagsOk, pushBy, pushOk, miscBy, activationBy, activationOk, grantBy, grantOk, wellHeaded}
-use Rattle.message.specs.HeadRules.{byte, Row, Bytes, Misc, among, RightHead}
+use Rattle.message.specs.Heads.{typeOf, opOf, sizeBy, msgSize, isMisc, flagBound, flagsOk, pushBy, pushOk, miscBy, activationBy, activationOk, grantBy, grantOk, wellHeaded, known, isMessage}
+use Rattle.message.specs.HeadRules.{byte, Row, Bytes, Misc, among, RightHead, Message}
 use Rattle.message.specs.HeadRules.Row.{ReqS, ReqL, Resp, Resp2, Snoop, DataS, DataL, WrReqDataS, WrReqDataL, LinkStatus, Activation, CrdtGrant, Connect, Property}
 
 -- what holds of each of a list holds of one that is among it
@@ -226,3 +226,23 @@ head-exactly m n r = (to, from)
         let c : activationOk m ≡ true = activation-exactly (typeOf m) (opOf m) (byte m 2) .1 (h .activation) in
         let d : grantOk m ≡ true = grant-exactly m (typeOf m) (opOf m) .1 (λ x. (form-exactly (byte m 2) .1 (h .form x), tail-exactly m .1 (h .behind x))) in
         rw (a, b, c, d)
+
+-- a whole message is one exactly where the test holds
+pub message-exactly : (m : List ℕ) → (isMessage m ≡ true) ↔ Message m
+message-exactly m = (to, from)
+  where
+    to : isMessage m ≡ true → Message m
+    to e =
+        let size : msgSize m ≡ length m = eqb-true (msgSize m) (length m) (and-left (eqb (msgSize m) (length m)) (known m && wellHeaded m) e) in
+        let rest = and-right (eqb (msgSize m) (length m)) (known m && wellHeaded m) e in
+        let some : 0 < msgSize m = ltb-true 0 (msgSize m) (and-left (known m) (wellHeaded m) rest) in
+        let row : Bytes m (length m) = bytes-exactly m (length m) .1 (size, omega arith) in
+        record { sized = row; headed = head-exactly m (length m) row .0 (and-right (known m) (wellHeaded m) rest) }
+
+    from : Message m → isMessage m ≡ true
+    from w =
+        let s = bytes-exactly m (length m) .0 (w .sized) in
+        let size = s .0 in
+        let some = s .1 in
+        and-both (eqb (msgSize m) (length m)) (known m && wellHeaded m) (eq-eqb (msgSize m) (length m) size)
+        (and-both (known m) (wellHeaded m) (lt-ltb 0 (msgSize m) (omega arith)) (head-exactly m (length m) (w .sized) .1 (w .headed)))

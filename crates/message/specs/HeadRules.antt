@@ -5,7 +5,7 @@ use mathlib.Core.Path.{_≡_}
 use mathlib.Core.Bool.{Bool, false, _||_}
 use mathlib.Core.List.{List, [], _∷_}
 use mathlib.Core.Logic.{_⊎_}
-use lib.ListN.{getD}
+use lib.ListN.{length, getD}
 use lib.Dec.{T, eqb}
 use Rattle.lists.specs.Pick.{pick}
 use Rattle.container.specs.Layout.{Format}
@@ -64,6 +64,11 @@ pub record RightHead (m : List ℕ) : Type 0 where
   pub form : Misc m 2 → (byte m 2 / 16 ≡ 0) × (byte m 2 % 2 ≡ 1 → byte m 2 / 2 % 8 ≡ 0)
   -- "bytes 7-15 zero)"
   pub behind : Misc m 2 → (i : ℕ) → 7 ≤ i → i ≤ 15 → byte m i ≡ 0
+
+-- a whole message: of as many bytes as its row of the table says, with a right head
+pub record Message (m : List ℕ) : Type 0 where
+  pub sized : Bytes m (length m)
+  pub headed : RightHead m
 
 -- a message m may start in granule g; "In Format X container, a message can be placed in any granule" (003): all have 20 bytes
 pub record MayStart (fm : Format) (g : ℕ) (m : List ℕ) : Type 0 where

@@ -1,4 +1,4 @@
--- "Causes and places" (document 01), the table of a reading: a constructor a row, its number and place at the end. The order is in Order.
+-- "Causes and places" (document 01), the table of a reading: a constructor a row, its number and place at the end.
 use Prim.Native.Nat.{ℕ, _+_, _*_, _/_, _%_, _≤_, _<_}
 use mathlib.Core.Path.{_≡_}
 use mathlib.Core.List.{List}

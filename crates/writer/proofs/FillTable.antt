@@ -1,7 +1,7 @@
 -- A fill and the check of a list name what the table gives. Assumes nothing; a list is of bytes.
 use Prim.Native.Nat.{ℕ}
 use mathlib.Core.Path.{_≡_, refl, ap, _∙_}
-use mathlib.Core.List.{List}
+use mathlib.Core.List.{List, [], _∷_}
 use mathlib.Core.Logic.{_↔_}
 use Rattle.lists.specs.Parts.{IsBytes}
 use Rattle.lists.proofs.Tests.{never-both, not-true-false}
@@ -11,13 +11,14 @@ use Rattle.cause.specs.declared.Cause.the-variants.{ContainerLength, HeaderGran
 use Rattle.cause.specs.declared.Verdict.the-variants.{Sound, Faulty}
 use Rattle.container.specs.Layout.{formatOf}
 use Rattle.container.specs.declared.grant.Grant.{Grant}
-use Rattle.record.specs.Records.{listFault}
+use Rattle.message.proofs.HeadRuleLaws.{message-exactly}
+use Rattle.record.specs.Records.{AllMessages, listFault}
 use Rattle.writer.specs.Laying.{usedOf}
 use Rattle.writer.specs.Filling.{tailOf, writerOk, filling}
 use Rattle.writer.specs.declared.writer.Writer.{Writer}
 use Rattle.writer.specs.declared.writer.Answer.the-variants as answer
 use Rattle.writer.proofs.ValidLaws.{writer-exactly}
-use Rattle.writer.specs.Faults.{ListFault, FillFault}
+use Rattle.writer.specs.Faults.{Messages, ListFault, FillFault}
 use Rattle.cause.specs.Order.{rank, Named, None}
 use Rattle.writer.proofs.FillCells.{ListCells, FillCells}
 use Rattle.reader.proofs.ReadFaults.{Ranked, chain}
@@ -34,12 +35,24 @@ module _ (A : Cause → ℕ → Type 0) (F : ℕ → ℕ → Type 0) (to : (k : 
   }
 
 -- ---- the check of a list
+
+-- messages in words and by the test
+in-words : (ms : List (List ℕ)) → AllMessages ms → Messages ms
+in-words [] h = tt
+in-words (m ∷ ms) h = (message-exactly m .0 (h .0), in-words ms (h .1))
+
+by-test : (ms : List (List ℕ)) → Messages ms → AllMessages ms
+by-test [] h = tt
+by-test (m ∷ ms) h = (message-exactly m .1 (h .0), by-test ms (h .1))
+
 module _ (l : List ℕ) where
   list-row : (k : Cause) (p : ℕ) → ListCells l k p → ListFault l (causeNumber k) p
-  list-row k p (ListCells.broken ms rest a e some never) = ListFault.broken ms rest a e some never
+  list-row k p (ListCells.broken ms rest a e some never) =
+      ListFault.broken ms rest (in-words ms a) e some (λ m more h. never m more (message-exactly m .1 h))
 
   row-list : (j q : ℕ) → ListFault l j q → (k : Cause) × (causeNumber k ≡ j) × ListCells l k q
-  row-list j q (ListFault.broken ms rest a e some never) = (BrokenRecord, refl, ListCells.broken ms rest a e some never)
+  row-list j q (ListFault.broken ms rest a e some never) = 
+      (BrokenRecord, refl, ListCells.broken ms rest (by-test ms a) e some (λ m more h. never m more (message-exactly m .0 h)))
 
   pub list-refused : IsBytes l → (k : Cause) (p : ℕ) → (listFault l ≡ Faulty k p) ↔ Named (ListFault l) k p
   list-refused h k p = chain (list-first l h k p) (first-named (alike (ListCells l) (ListFault l) list-row row-list) k p)

@@ -1,21 +1,26 @@
--- "Causes and places" (document 01), the table of a list and a fill: a constructor a row, its number and place at the end. The order is in Order.
-use Prim.Native.Nat.{ℕ, _+_, _<_}
+-- "Causes and places" (document 01), the table of a list and a fill: a constructor a row, its number and place at the end.
+use Prim.Native.Nat.{ℕ, _<_}
 use mathlib.Core.Path.{_≡_}
 use mathlib.Core.Bool.{true}
-use mathlib.Core.List.{List, _++_}
+use mathlib.Core.List.{List, [], _∷_, _++_}
 use mathlib.Core.Logic.{_⊎_}
 use lib.ListN.{length}
 use Rattle.container.specs.declared.grant.Grant.{Grant}
-use Rattle.record.specs.Records.{recordOf, recordsOf, AllMessages}
-use Rattle.message.specs.Heads.{isMessage}
+use Rattle.message.specs.HeadRules.{Message}
+use Rattle.record.specs.Records.{recordOf, recordsOf}
 use Rattle.writer.specs.ValidWriter.{ValidWriter}
 use Rattle.writer.specs.declared.writer.Writer.{Writer}
+
+-- each is a whole message
+abbrev pub Messages : List (List ℕ) → Type 0
+Messages [] = Unit {0}
+Messages (m ∷ ms) = Message m × Messages ms
 
 -- 17 | broken record or number, or record whose size, type or head is wrong | byte offset of the record: behind records of messages stands
 -- something that begins with no record of a message
 pub data ListFault (l : List ℕ) : ℕ → ℕ → Type 0 where
-  broken : (ms : List (List ℕ)) (rest : List ℕ) → AllMessages ms → l ≡ recordsOf ms ++ rest → 0 < length rest
-      → ((m more : List ℕ) → isMessage m ≡ true → rest ≡ recordOf m ++ more → ⊥) → ListFault l 17 (length (recordsOf ms))
+  broken : (ms : List (List ℕ)) (rest : List ℕ) → Messages ms → l ≡ recordsOf ms ++ rest → 0 < length rest
+      → ((m more : List ℕ) → Message m → rest ≡ recordOf m ++ more → ⊥) → ListFault l 17 (length (recordsOf ms))
 
 -- filling from list l under grant n a container of so many bytes
 pub data FillFault (w : Writer) (l : List ℕ) (n : Grant) (bytes : ℕ) : ℕ → ℕ → Type 0 where
