@@ -51,7 +51,7 @@ module _ (l : List ℕ) where
       ListFault.broken ms rest (in-words ms a) e some (λ m more h. never m more (message-exactly m .1 h))
 
   row-list : (j q : ℕ) → ListFault l j q → (k : Cause) × (causeNumber k ≡ j) × ListCells l k q
-  row-list j q (ListFault.broken ms rest a e some never) = 
+  row-list j q (ListFault.broken ms rest a e some never) =
       (BrokenRecord, refl, ListCells.broken ms rest (by-test ms a) e some (λ m more h. never m more (message-exactly m .0 h)))
 
   pub list-refused : IsBytes l → (k : Cause) (p : ℕ) → (listFault l ≡ Faulty k p) ↔ Named (ListFault l) k p
