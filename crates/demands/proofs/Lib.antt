@@ -10,5 +10,5 @@ pub mod LogTap
 pub mod Demands
 pub mod Interleaving
 pub mod Service
-pub mod Waiting
+pub mod Delayed
 pub mod Examples

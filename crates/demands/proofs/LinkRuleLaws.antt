@@ -39,7 +39,7 @@ use Rattle.ledger.proofs.PaymentRuleLaws.{pays-exactly, payment-exactly}
 use Rattle.ledger.proofs.GrantRuleLaws.{gives-exactly, grant-exactly}
 use Rattle.history.specs.Link.{opposite}
 use Rattle.demands.specs.Tap.{startsIn, grantsOf, receiverFor, ruleChecks}
-use Rattle.demands.specs.LinkRules.{Reads, startedIn, LinkRules}
+use Rattle.demands.specs.LinkRules.{KeepsRules, startedIn, LinkRules}
 use Rattle.demands.proofs.TapLaws.{reads-by, by-reads}
 
 -- ---- what holds of each of a list of messages
@@ -180,7 +180,7 @@ module _ (own other : Receiver) (s : Reader) (c : List ℕ) (valid : ValidState 
   abbrev test : Bool
   test = eqb (length c) 256 && passes (firstFault (ruleChecks own other s c))
 
-  test-exactly : (test ≡ true) ↔ Reads own other s c
+  test-exactly : (test ≡ true) ↔ KeepsRules own other s c
   test-exactly = (
     λ e. let r = reads-by own other s c e in let k = state-rules (r .long) .0 (r .state) in record { size = r .long; rules = k; pools = pools-exactly k .0 (r .messages, r .grants) },
     λ r. let p = pools-exactly (r .rules) .1 (r .pools) in by-reads own other s c (record { long = r .size; state = state-rules (r .size) .1 (r .rules); messages = p .0; grants = p .1 }),

@@ -1,12 +1,12 @@
 -- The table of causes holds of every entry. Assumes nothing.
-use Rattle.demands.specs.Demand1.{Table}
+use Rattle.demands.specs.Demand1.{TableOfCauses}
 use Rattle.reader.proofs.ReadTable.{read-refused, read-accepted, judge-refused, judge-accepted}
 use Rattle.ledger.proofs.AuditTable.{audit-refused, audit-accepted}
 use Rattle.writer.proofs.FillTable.{fill-refused, fill-accepted, list-refused, list-accepted}
 use Rattle.demands.proofs.FormatTable.{reader-refused, reader-accepted, writer-refused, writer-accepted}
 use Rattle.ledger.proofs.LedgerTable.{opening-refused, opening-accepted, report-refused, report-counted}
 
-pub table : Table
+pub table : TableOfCauses
 table = record {
   read-refused = read-refused;
   read-accepted = read-accepted;

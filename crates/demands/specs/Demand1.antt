@@ -66,7 +66,7 @@ pub record Untouched : Type 0 where
 
 -- "A bad one is refused with a cause and a place from the fixed table": with those of a row that holds and that no row of a lower rank
 -- comes before; what no row holds of is accepted
-pub record Table : Type 0 where
+pub record TableOfCauses : Type 0 where
   -- the reader, with any container and any room
   pub read-refused : (s : Reader) (c : List ℕ) (room : ℕ) (k : Cause) (p : ℕ) → (reading s c room .answer ≡ read.Refused k p) ↔ Named (ReadFault s c room) k p
   pub read-accepted : (s : Reader) (c : List ℕ) (room : ℕ)
@@ -101,7 +101,7 @@ pub record Table : Type 0 where
 
 pub record Demand1 : Type 0 where
   -- "A bad one is refused with a cause and a place from the fixed table."
-  pub table : Table
+  pub table : TableOfCauses
   -- "A refusal changes no state and no byte of lent memory"
   pub untouched : Untouched
   -- a run over entries, with any ledger and any bytes: the only outcome that its rules allow; with a refusal the ledger is the one behind the

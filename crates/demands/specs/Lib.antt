@@ -8,7 +8,7 @@ pub mod LogTap
 pub mod Demand3
 pub mod Marked
 pub mod Pinned
-pub mod Waiting
+pub mod Delayed
 pub mod Beneath
 pub mod Interleaving
 pub mod Service

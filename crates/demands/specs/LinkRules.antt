@@ -24,7 +24,7 @@ use Rattle.demands.specs.Tap.{startsIn, receiverFor, linkOf}
 
 -- "Containers keep the rules above for bytes, heads and placement and these for pools": a container that a reader in this state meets, by
 -- the receiver of its direction and that of the opposite one
-pub record Reads (own other : Receiver) (s : Reader) (c : List ℕ) : Type 0 where
+pub record KeepsRules (own other : Receiver) (s : Reader) (c : List ℕ) : Type 0 where
   pub size : length c ≡ 256
   pub rules : Rules (formatOf (s .format)) (carried s) c
   pub pools : KeepsPools own other (formatOf (s .format)) c
@@ -37,7 +37,7 @@ startedIn fm c (suc g) = startedIn fm c g ++ pick (eqb (startBit fm c g) 1) (gra
 pub record LinkRules : Type 0 where
   -- from a valid state the link reads a container exactly where it keeps the rules for bytes, heads and placement and those for pools
   pub reads-exactly : (f : ℕ) (a b : Receiver) (d : Direction) (s : Reader) (c : List ℕ) → ValidState s
-      → (linkOf f a b .reads d s c ≡ true) ↔ Reads (receiverFor a b d) (receiverFor a b (opposite d)) s c
+      → (linkOf f a b .reads d s c ≡ true) ↔ KeepsRules (receiverFor a b d) (receiverFor a b (opposite d)) s c
   -- the messages that it counts as begun are those whose start bits are set, in granule order
   pub starts-are : (s : Reader) (c : List ℕ) → startsIn s c ≡ startedIn (formatOf (s .format)) c 12
   -- a message is counted in a pool exactly where it pays it, with the credits that it pays

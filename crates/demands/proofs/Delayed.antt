@@ -17,7 +17,7 @@ use Rattle.history.specs.History.{stateAfter, Measure, total}
 use Rattle.history.specs.Delays.{Readable, Plain}
 use Rattle.history.proofs.DelayLaws.{delays}
 use Rattle.demands.specs.Marked.{noGrant}
-use Rattle.demands.specs.Waiting.{link, idle, one, two, three, Waiting}
+use Rattle.demands.specs.Delayed.{link, idle, one, two, three, Delayed}
 
 -- a grant of nothing gives nothing to any pool
 nothing-given : (p : ℕ) → grantedBy p noGrant ≡ 0
@@ -65,7 +65,7 @@ none-of f d p e =
 plain : (d : Direction) → Plain link d three
 plain d = (readable d, λ p. none-of (link .grants) d p (idle-grants d p), λ p. none-of (link .begins) d p (idle-begins d p))
 
-pub waiting : Waiting
-waiting = record {
+pub delayed : Delayed
+delayed = record {
   under-way = delays link .any-delay (λ d. three) (λ d. two) (λ d. one) (λ d. (shorter (whole refl), shorter (whole refl), plain d));
 }

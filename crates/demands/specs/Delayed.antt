@@ -24,6 +24,6 @@ two = one ▷ idle
 abbrev pub three : Trace (List ℕ)
 three = two ▷ idle
 
-pub record Waiting : Type 0 where
+pub record Delayed : Type 0 where
   -- in both directions three containers have left, two of these have passed, and one of these has arrived
   pub under-way : (h : Trace (Event (List ℕ))) × History link h × ((d : Direction) → UnderWay d three two one h)
