@@ -2,11 +2,11 @@
 ghost use Prim.Native.Nat.{_≤_};
 ghost use lib.ListN.{length};
 use cause::number_cause;
-use container::move_front;
 use ledger::LogReader;
 use ledger::LogVerdict;
 use ledger::Outcome;
 use libc::STDOUT_FILENO;
+use slices::move_front;
 
 // Keeps the window's bytes from `from` up to `have`, and puts behind them what one read gives; answers how many there are then.
 fn read_more(buf: &mut [u8], from: usize, have: usize) -> usize

@@ -14,7 +14,7 @@ use Rattle.cause.specs.declared.Verdict.the-variants.{Sound, Faulty}
 use Rattle.cause.proofs.CauseLaws.{number-most}
 use Rattle.ledger.specs.Audit.{ledgerOk, configured, freshLedger, opening, reported}
 use Rattle.ledger.specs.Run.{running, runOver}
-use Rattle.ledger.specs.declared.receiver.Receiver.{Receiver}
+use Rattle.pools.specs.declared.receiver.Receiver.{Receiver}
 use Rattle.ledger.specs.declared.ledger.Ledger.{Ledger}
 use Rattle.ledger.specs.declared.ledger.Opened.{Opened}
 use Rattle.ledger.specs.declared.ledger.Answer.the-variants.{Refused}

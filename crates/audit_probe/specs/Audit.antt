@@ -9,9 +9,10 @@ use Rattle.cause.specs.Causes.{causeNumber}
 use Rattle.cause.specs.declared.Cause.the-variants.{InvalidState}
 use Rattle.cause.specs.declared.Verdict.{Verdict}
 use Rattle.cause.specs.declared.Verdict.the-variants.{Sound, Faulty}
-use Rattle.ledger.specs.Audit.{row, freshLedger, opening, reported}
+use Rattle.pools.specs.Rows.{row}
+use Rattle.ledger.specs.Audit.{freshLedger, opening, reported}
 use Rattle.ledger.specs.Run.{runOver}
-use Rattle.ledger.specs.declared.receiver.Receiver.{Receiver}
+use Rattle.pools.specs.declared.receiver.Receiver.{Receiver}
 use Rattle.ledger.specs.declared.ledger.Ledger.{Ledger}
 use Rattle.ledger.specs.declared.ledger.Opened.{Opened}
 use Rattle.ledger.specs.declared.ledger.Answer.{Answer}

@@ -12,10 +12,10 @@ use cause::number_cause;
 use ledger::Answer;
 use ledger::Ledger;
 use ledger::Opened;
-use ledger::Receiver;
 use ledger::Reported;
 use ledger::Run;
 use ledger::Step;
+use pools::Receiver;
 
 // The number at i, 0 behind the end.
 fn number_at(numbers: &[u32], i: usize) -> u32

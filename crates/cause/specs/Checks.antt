@@ -1,7 +1,7 @@
 -- Checks in order: the first that fails gives its cause and place.
 use Prim.Native.Nat.{ℕ}
 use mathlib.Core.Path.{_≡_}
-use mathlib.Core.Bool.{Bool, true}
+use mathlib.Core.Bool.{Bool, true, false}
 use mathlib.Core.List.{List, [], _∷_}
 use Rattle.lists.specs.Pick.{pick}
 use Rattle.cause.specs.declared.Cause.{Cause}
@@ -36,3 +36,8 @@ whenSound (Faulty c p) a b = b
 abbrev pub orElse : Verdict → Verdict → Verdict
 orElse Sound v = v
 orElse (Faulty c p) v = Faulty c p
+
+-- a verdict is sound
+abbrev pub passes : Verdict → Bool
+passes Sound = true
+passes (Faulty c p) = false

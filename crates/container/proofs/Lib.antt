@@ -1,4 +1,2 @@
 pub mod Formats
-pub mod ZeroTest
-pub mod FrontLaws
 pub mod TableLaws

@@ -2,7 +2,7 @@
 ghost use mathlib.Core.Path.{_≡_};
 ghost use Prim.Native.Nat.{_/_, _%_, _^_};
 ghost use Rattle.container.specs.Layout.{start, formatOf, header, msgStart, bit};
-use crate::bytes::byte_at;
+use slices::byte_at;
 
 // The first byte of granule g.
 pub fn locate_granule(g: u8) -> usize

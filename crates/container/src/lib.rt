@@ -1,11 +1,7 @@
 // Container bytes: granules, protocol header and grant forms of both formats (document 01, "Container bytes").
-mod bytes;
 mod grant;
 mod layout;
 
-pub use bytes::byte_at;
-pub use bytes::is_zero;
-pub use bytes::move_front;
 pub use grant::Grant;
 pub use grant::allows_plane;
 pub use grant::decode_grant;

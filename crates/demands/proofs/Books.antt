@@ -10,19 +10,19 @@ use borrow.Author.Tests.{lt-ltb, le-ltb}
 use Rattle.lists.specs.Pick.{pick}
 use Rattle.lists.proofs.ZeroLaws.{zeros-at, zeros-replicate}
 use Rattle.lists.proofs.Tests.{never-both, not-true-false, same-test, and-left, and-right, and-both}
-use Rattle.cause.specs.Checks.{Pass, firstFault, whenSound}
+use Rattle.cause.specs.Checks.{Pass, firstFault, whenSound, passes}
 use Rattle.cause.specs.declared.Verdict.{Verdict}
 use Rattle.cause.specs.declared.Verdict.the-variants.{Sound, Faulty}
 use Rattle.message.specs.Charges.{charges}
 use Rattle.reader.specs.Reading.{carried, readerOk, readerWith, nextReader}
 use Rattle.reader.specs.declared.reader.Reader.{Reader}
-use Rattle.ledger.specs.Pools.{receiverOk, messageChecks, allMessages, allGrants, chargedTo, paidTo, grantedTo}
-use Rattle.ledger.specs.Audit.{receiverOf, readerOf, heldOf, openOf, passes, ledgerOk, configured, freshLedger, begun, finished, granted, auditChecks, nextLedger, answerOf, auditing, reported}
+use Rattle.pools.specs.Pools.{receiverOk, messageChecks, allMessages, allGrants, chargedTo, paidTo, grantedTo}
+use Rattle.ledger.specs.Audit.{receiverOf, readerOf, heldOf, openOf, ledgerOk, configured, freshLedger, begun, finished, granted, auditChecks, nextLedger, answerOf, auditing, reported}
 use Rattle.ledger.specs.Audit as audit
-use Rattle.ledger.specs.declared.receiver.Receiver.{Receiver}
+use Rattle.pools.specs.declared.receiver.Receiver.{Receiver}
 use Rattle.ledger.specs.declared.ledger.Ledger.{Ledger}
-use Rattle.ledger.specs.declared.kinds.Credits.{Credits}
-use Rattle.ledger.specs.declared.kinds.Slots.{Slots}
+use Rattle.pools.specs.declared.kinds.Credits.{Credits}
+use Rattle.pools.specs.declared.kinds.Slots.{Slots}
 use Rattle.ledger.specs.declared.ledger.Reported.the-variants.{Counted}
 use Rattle.ledger.proofs.ValidLaws.{ValidDirection, ledger-valid, valid-ledger}
 use Rattle.ledger.proofs.AcceptedLaws.{Accepted, accepted-by, accepted-sound, held-own, held-other, open-own, open-other, reader-own, reader-other, receivers-kept, next-ledger-valid}

@@ -6,11 +6,11 @@ use mathlib.Core.List.{[]}
 use native.Mathlib.Omega.{arith}
 use lib.Dec.{eqb}
 use Rattle.lists.proofs.PickLaws.{pick-both}
-use Rattle.reader.specs.Cells.{cells, carryAfter, startings}
-use Rattle.reader.specs.Checking.{granuleChecks, groupChecks, containerChecks}
+use Rattle.placement.specs.Cells.{cells, carryAfter, startings}
+use Rattle.placement.specs.Checking.{granuleChecks, groupChecks, containerChecks}
 use Rattle.reader.specs.Reading.{readerWith, stateChecks, nextReader}
 use Rattle.reader.specs.declared.reader.Reader.{Reader}
-use Rattle.ledger.specs.Pools.{allMessages, allGrants, paidTo, grantedTo, grantedBy, grantsIn}
+use Rattle.pools.specs.Pools.{allMessages, allGrants, paidTo, grantedTo, grantedBy, grantsIn}
 use Rattle.history.specs.Trace.{whole, shorter}
 use Rattle.history.specs.Link.{Direction, direction0, direction1}
 use Rattle.history.specs.History.{stateAfter, Measure, total}

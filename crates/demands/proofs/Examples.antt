@@ -3,14 +3,15 @@
 use mathlib.Core.Path.{refl}
 use Rattle.record.specs.Number.{number, readNumber}
 use Rattle.record.specs.Records.{faultFrom, listFault}
-use Rattle.reader.specs.Cells.{cells, carryAfter, endings, startings}
-use Rattle.reader.specs.Checking.{granuleChecks, groupChecks, containerChecks}
+use Rattle.placement.specs.Cells.{cells, carryAfter, endings, startings}
+use Rattle.placement.specs.Checking.{granuleChecks, groupChecks, containerChecks}
 use Rattle.reader.specs.Reading.{stateChecks, readChecks, nextReader, records, reading}
 use Rattle.writer.specs.Plan.{plan, cursorLast}
 use Rattle.writer.specs.Laying.{setAll, layCells, containerOf, filled, owesAfter, usedOf}
 use Rattle.writer.specs.Filling.{callChecks, fillFault, filling, fillBytes}
-use Rattle.ledger.specs.Pools.{capacitiesOk, allMessages, allGrants, paidTo, grantedTo, grantsIn}
-use Rattle.ledger.specs.Audit.{poolsOk, begun, finished, granted, heldChecks, roomChecks, auditChecks, row, nextLedger, auditing}
+use Rattle.pools.specs.Pools.{capacitiesOk, allMessages, allGrants, paidTo, grantedTo, grantsIn}
+use Rattle.ledger.specs.Audit.{poolsOk, begun, finished, granted, heldChecks, roomChecks, auditChecks, nextLedger, auditing}
+use Rattle.pools.specs.Rows.{row}
 use Rattle.feeder.specs.Due.{foundAt}
 use Rattle.feeder.specs.Feeding as feeder
 use Rattle.history.specs.Trace.{start}

@@ -29,7 +29,7 @@ use Rattle.reader.proofs.PlaceLaws.{refused-place, judged-place}
 use Rattle.ledger.specs.Audit.{ledgerOk, configured, reported}
 use Rattle.ledger.specs.RunRules.{RunRule}
 use Rattle.ledger.specs.ValidLedger.{ValidLedger}
-use Rattle.ledger.specs.declared.receiver.Receiver.{Receiver}
+use Rattle.pools.specs.declared.receiver.Receiver.{Receiver}
 use Rattle.ledger.specs.declared.ledger.Answer.the-variants as audit
 use Rattle.ledger.specs.declared.ledger.Reported.the-variants as report
 use Rattle.ledger.proofs.RunRuleLaws.{run-follows}

@@ -12,7 +12,7 @@ use Rattle.ledger.specs.Audit.{receiverOf, readerOf, heldOf, openOf, ledgerOk, 
 use Rattle.ledger.specs.Log.{receiverAt, ledgerOf}
 use Rattle.ledger.specs.Calls.{behind}
 use Rattle.ledger.specs.WholeLog.{AcceptedLog}
-use Rattle.ledger.specs.declared.receiver.Receiver.{Receiver}
+use Rattle.pools.specs.declared.receiver.Receiver.{Receiver}
 use Rattle.ledger.specs.declared.ledger.Ledger.{Ledger}
 use Rattle.ledger.proofs.SettingValid.{fresh-valid}
 use Rattle.ledger.proofs.CallLaws.{behind-valid}

@@ -13,7 +13,7 @@ use borrow.Author.Tests.{eqb-true, eqb-false}
 use Rattle.lists.specs.Pick.{pick}
 use Rattle.lists.proofs.Tests.{cases, never-both, true-T, T-true}
 use Rattle.lists.proofs.Order.{lt-or-le}
-use Rattle.cause.specs.Checks.{Pass, firstFault}
+use Rattle.cause.specs.Checks.{Pass, firstFault, passes}
 use Rattle.cause.proofs.CheckLaws.{pass-front, pass-back, pass-append}
 use Rattle.container.specs.Layout.{Format, formatOf, granule}
 use Rattle.container.specs.Grants.{headerGrant}
@@ -22,21 +22,20 @@ use Rattle.container.proofs.Formats.{lawful-of}
 use Rattle.message.specs.Heads.{isMisc}
 use Rattle.message.specs.HeadRules.{Misc}
 use Rattle.message.proofs.HeadRuleLaws.{misc-exactly}
-use Rattle.reader.specs.Cells.{cellAt, after, cells, startings}
+use Rattle.placement.specs.Cells.{cellAt, after, cells, startings}
 use Rattle.reader.specs.Reading.{carried, stateChecks}
-use Rattle.reader.specs.Rules.{Rules, Starts, startBit}
+use Rattle.placement.specs.Rules.{Rules, Starts, startBit}
 use Rattle.reader.specs.ValidState.{ValidState}
 use Rattle.reader.specs.declared.reader.Reader.{Reader}
-use Rattle.reader.proofs.KeepsLaws.{passes-keeps, keeps-passes}
+use Rattle.placement.proofs.KeepsLaws.{passes-keeps, keeps-passes}
 use Rattle.reader.proofs.RulesLaws.{rules-exactly}
 use Rattle.reader.proofs.ReadRules.{carry-exactly}
-use Rattle.ledger.specs.Pools.{messageChecks, grantChecks, allMessages, allGrants, grantsIn}
-use Rattle.ledger.specs.PoolRules.{PaysRight, GrantsRight, KeepsPools, grantIn}
-use Rattle.ledger.specs.Audit.{passes}
-use Rattle.ledger.specs.declared.receiver.Receiver.{Receiver}
-use Rattle.ledger.proofs.PoolRuleLaws.{passes-exactly}
-use Rattle.ledger.proofs.PaymentRuleLaws.{pays-exactly, payment-exactly}
-use Rattle.ledger.proofs.GrantRuleLaws.{gives-exactly, grant-exactly}
+use Rattle.pools.specs.Pools.{messageChecks, grantChecks, allMessages, allGrants, grantsIn}
+use Rattle.pools.specs.PoolRules.{PaysRight, GrantsRight, KeepsPools, grantIn}
+use Rattle.pools.specs.declared.receiver.Receiver.{Receiver}
+use Rattle.pools.proofs.PoolRuleLaws.{passes-exactly}
+use Rattle.pools.proofs.PaymentRuleLaws.{pays-exactly, payment-exactly}
+use Rattle.pools.proofs.GrantRuleLaws.{gives-exactly, grant-exactly}
 use Rattle.history.specs.Link.{opposite}
 use Rattle.demands.specs.Tap.{startsIn, grantsOf, receiverFor, ruleChecks}
 use Rattle.demands.specs.LinkRules.{KeepsRules, startedIn, LinkRules}

@@ -17,7 +17,7 @@ use Rattle.ledger.specs.Calls as log
 use Rattle.ledger.specs.LogRules.{ConfigurationFault, Enters, entryOf}
 use Rattle.ledger.specs.LogRules.Enters.{none, next}
 use Rattle.ledger.specs.WholeLog.{BegunLog, RefusedLog}
-use Rattle.ledger.specs.declared.receiver.Receiver.{Receiver}
+use Rattle.pools.specs.declared.receiver.Receiver.{Receiver}
 use Rattle.ledger.specs.declared.ledger.Ledger.{Ledger}
 use Rattle.ledger.specs.declared.ledger.Answer.the-variants.{Refused}
 use Rattle.ledger.proofs.ValidLedgerLaws.{configured-exactly}

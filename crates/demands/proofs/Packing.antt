@@ -15,10 +15,10 @@ use Rattle.writer.specs.Filling.{tailOf, fillFault, filling, fillBytes}
 use Rattle.writer.specs.declared.writer.Writer.{Writer}
 use Rattle.writer.specs.declared.writer.Answer.the-variants.{Filled}
 use Rattle.writer.proofs.AnswerLaws.{filling-sound}
-use Rattle.writer.proofs.Bound.{within-n, within-2n}
+use Rattle.round_trip.proofs.Bound.{within-n, within-2n}
 use Rattle.writer.proofs.LegalLaws.{plan-legal, plan-beneath}
 use Rattle.writer.proofs.OneWayLaws.{one-way-exactly, one-way-only}
-use Rattle.writer.proofs.Return.{out-so-far, list-returned}
+use Rattle.round_trip.proofs.Return.{out-so-far, list-returned}
 use Rattle.demands.specs.Demand2.{Demand2, Laid}
 
 one-way : (w : Writer) (l : List ℕ) (n : Grant) (c : List ℕ) (u : ℕ) → filling w l n (length c) .answer ≡ Filled u → Laid w l n c u

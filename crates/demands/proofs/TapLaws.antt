@@ -12,7 +12,7 @@ use borrow.Author.Tests.{eqb-true, ltb-true, leb-true, eq-eqb, ne-eqb}
 use Rattle.lists.specs.Pick.{pick}
 use Rattle.lists.proofs.PickLaws.{pick-both}
 use Rattle.lists.proofs.Tests.{cases, and-left, and-right, and-both}
-use Rattle.cause.specs.Checks.{Pass, firstFault}
+use Rattle.cause.specs.Checks.{Pass, firstFault, passes}
 use Rattle.cause.specs.declared.Verdict.{Verdict}
 use Rattle.cause.specs.declared.Verdict.the-variants.{Sound, Faulty}
 use Rattle.cause.proofs.CheckLaws.{sound-pass, pass-sound, pass-front, pass-back, pass-append}
@@ -25,9 +25,9 @@ use Rattle.message.specs.declared.heads.Class.the-variants.{Unknown, Request, R
 use Rattle.reader.specs.Reading.{carried, readerOk, readerWith, stateChecks, judgeChecks, nextReader}
 use Rattle.reader.specs.declared.reader.Reader.{Reader}
 use Rattle.reader.proofs.CarryLaws.{with-valid, next-valid}
-use Rattle.ledger.specs.Pools.{receiverOk, capacitiesOk, paysReq, messageChecks, grantChecks, allMessages, allGrants, chargedTo, paidTo, grantedBy, grantedTo}
-use Rattle.ledger.specs.Audit.{passes, configured}
-use Rattle.ledger.specs.declared.receiver.Receiver.{Receiver}
+use Rattle.pools.specs.Pools.{receiverOk, capacitiesOk, paysReq, messageChecks, grantChecks, allMessages, allGrants, chargedTo, paidTo, grantedBy, grantedTo}
+use Rattle.ledger.specs.Audit.{configured}
+use Rattle.pools.specs.declared.receiver.Receiver.{Receiver}
 use Rattle.ledger.proofs.CarriedLaws.{paid-kept, next-passes}
 use Rattle.history.specs.Link.{Direction, direction0, direction1, opposite, Link, Lawful}
 use Rattle.demands.specs.Tap.{startsIn, grantsOf, receiverFor, ruleChecks, linkOf}

@@ -6,7 +6,7 @@ use lib.ListN.{length, replicate}
 use Rattle.record.specs.Records.{recordsOf}
 use Rattle.reader.specs.Reading.{readerWith, records}
 use Rattle.writer.specs.Filling.{writerWith, filling, fillBytes}
-use Rattle.writer.specs.Calls.{zeroGrant}
+use Rattle.round_trip.specs.Calls.{zeroGrant}
 use Rattle.writer.specs.declared.writer.Step.{Step}
 use Rattle.writer.specs.declared.writer.Answer.the-variants.{Filled}
 use Rattle.demands.specs.Marked.{withBytes}

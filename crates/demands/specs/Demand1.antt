@@ -23,7 +23,7 @@ use Rattle.ledger.specs.Run.{runOver}
 use Rattle.ledger.specs.RunRules.{RunRule}
 use Rattle.ledger.specs.Stream.{consuming}
 use Rattle.ledger.specs.LogRules.{Consumes}
-use Rattle.ledger.specs.declared.receiver.Receiver.{Receiver}
+use Rattle.pools.specs.declared.receiver.Receiver.{Receiver}
 use Rattle.ledger.specs.declared.ledger.Reported.the-variants as report
 use Rattle.ledger.specs.declared.entries.Run.{Run}
 use Rattle.ledger.specs.declared.log.LogReader.{LogReader}

@@ -13,8 +13,8 @@ use Rattle.container.specs.declared.grant.Grant.{Grant}
 use Rattle.message.specs.Heads.{isMessage}
 use Rattle.message.specs.Kinds.{PaysAsCharged}
 use Rattle.record.specs.Records.{recordsOf, AllMessages}
-use Rattle.reader.specs.Cells.{Cell}
-use Rattle.reader.specs.Rules.{Rules}
+use Rattle.placement.specs.Cells.{Cell}
+use Rattle.placement.specs.Rules.{Rules}
 use Rattle.reader.specs.Completion.{CarryEnds}
 use Rattle.reader.specs.ValidState.{ValidState, HandsOut}
 use Rattle.reader.specs.Reading.{readerOk, carried, records, reading}
@@ -23,7 +23,7 @@ use Rattle.reader.specs.declared.reader.Answer.the-variants.{Done}
 use Rattle.writer.specs.Laying.{containerOf}
 use Rattle.writer.specs.OneWay.{Way, mayStart, mayLie, KeepsWith, KeepsBeneath}
 use Rattle.writer.specs.Filling.{tailOf, writerWith, filling, fillBytes}
-use Rattle.writer.specs.Calls.{Filling, FillingLeft, GrantsNothing, UsedUp, AllOut, OutSoFar}
+use Rattle.round_trip.specs.Calls.{Filling, FillingLeft, GrantsNothing, UsedUp, AllOut, OutSoFar}
 use Rattle.writer.specs.declared.writer.Writer.{Writer}
 use Rattle.writer.specs.declared.writer.Answer.the-variants.{Filled}
 

@@ -7,9 +7,9 @@ use Rattle.record.specs.Records.{recordsOf}
 use Rattle.reader.specs.Reading.{records}
 use Rattle.reader.specs.declared.reader.Reader.{Reader}
 use Rattle.ledger.specs.Audit.{configured, reported}
-use Rattle.ledger.specs.declared.receiver.Receiver.{Receiver}
-use Rattle.ledger.specs.declared.kinds.Credits.{Credits}
-use Rattle.ledger.specs.declared.kinds.Slots.{Slots}
+use Rattle.pools.specs.declared.receiver.Receiver.{Receiver}
+use Rattle.pools.specs.declared.kinds.Credits.{Credits}
+use Rattle.pools.specs.declared.kinds.Slots.{Slots}
 use Rattle.ledger.specs.declared.ledger.Reported.the-variants.{Counted}
 use Rattle.history.specs.Trace.{Trace}
 use Rattle.history.specs.Link.{Direction, numberOf}

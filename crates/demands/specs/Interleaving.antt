@@ -9,7 +9,7 @@ use Rattle.ledger.specs.Log.{ledgerOf}
 use Rattle.ledger.specs.Calls.{AllAccepted, behind}
 use Rattle.ledger.specs.Calls as log
 use Rattle.ledger.specs.WholeLog.{AcceptedLog}
-use Rattle.ledger.specs.declared.receiver.Receiver.{Receiver}
+use Rattle.pools.specs.declared.receiver.Receiver.{Receiver}
 use Rattle.ledger.specs.declared.ledger.Ledger.{Ledger}
 use Rattle.ledger.specs.declared.ledger.Answer.the-variants.{Refused}
 use Rattle.history.specs.Trace.{Trace, start}

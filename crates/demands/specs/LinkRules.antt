@@ -13,12 +13,12 @@ use Rattle.container.specs.declared.grant.Grant.{Grant}
 use Rattle.message.specs.Charges.{charges}
 use Rattle.message.specs.HeadRules.{byte}
 use Rattle.reader.specs.Reading.{carried}
-use Rattle.reader.specs.Rules.{Rules, startBit}
+use Rattle.placement.specs.Rules.{Rules, startBit}
 use Rattle.reader.specs.ValidState.{ValidState}
 use Rattle.reader.specs.declared.reader.Reader.{Reader}
-use Rattle.ledger.specs.Pools.{chargedTo, grantedBy}
-use Rattle.ledger.specs.PoolRules.{Pays, Gives, KeepsPools}
-use Rattle.ledger.specs.declared.receiver.Receiver.{Receiver}
+use Rattle.pools.specs.Pools.{chargedTo, grantedBy}
+use Rattle.pools.specs.PoolRules.{Pays, Gives, KeepsPools}
+use Rattle.pools.specs.declared.receiver.Receiver.{Receiver}
 use Rattle.history.specs.Link.{Direction, opposite}
 use Rattle.demands.specs.Tap.{startsIn, receiverFor, linkOf}
 

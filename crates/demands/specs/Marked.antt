@@ -16,7 +16,7 @@ use Rattle.reader.specs.declared.reader.Answer as reader
 use Rattle.reader.specs.declared.reader.Answer.the-variants as read
 use Rattle.writer.specs.Filling.{writerWith, fillBytes}
 use Rattle.ledger.specs.Audit.{freshLedger, auditing}
-use Rattle.ledger.specs.declared.receiver.Receiver.{Receiver}
+use Rattle.pools.specs.declared.receiver.Receiver.{Receiver}
 use Rattle.ledger.specs.declared.ledger.Ledger.{Ledger}
 use Rattle.ledger.specs.declared.ledger.Answer.{Answer}
 use Rattle.ledger.specs.declared.ledger.Answer.the-variants.{Accepted, Refused}

@@ -12,7 +12,7 @@ use Rattle.writer.specs.Filling.{writerWith, filling}
 use Rattle.writer.specs.declared.writer.Answer.{Answer}
 use Rattle.writer.specs.declared.writer.Answer.the-variants.{Filled, Refused}
 use Rattle.ledger.specs.Audit.{freshLedger}
-use Rattle.ledger.specs.declared.receiver.Receiver.{Receiver}
+use Rattle.pools.specs.declared.receiver.Receiver.{Receiver}
 use Rattle.demands.specs.Marked.{withBytes, readTold, answersTo, call}
 
 -- cause and place of a container of zeros but for some bytes, read by a new reader; in X P0 is byte 126, in Y byte 246

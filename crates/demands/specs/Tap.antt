@@ -4,17 +4,17 @@ use mathlib.Core.Bool.{Bool, true, false, _&&_}
 use mathlib.Core.List.{List, [], _∷_, _++_}
 use lib.ListN.{length, getD}
 use lib.Dec.{eqb}
-use Rattle.cause.specs.Checks.{Check, firstFault}
+use Rattle.cause.specs.Checks.{Check, firstFault, passes}
 use Rattle.container.specs.Layout.{formatOf}
 use Rattle.container.specs.Grants.{headerGrant}
 use Rattle.container.specs.declared.grant.Grant.{Grant}
 use Rattle.message.specs.Charges.{charges}
-use Rattle.reader.specs.Cells.{cells, endings, startings}
+use Rattle.placement.specs.Cells.{cells, endings, startings}
 use Rattle.reader.specs.Reading.{carried, readerOk, readerWith, stateChecks, nextReader}
 use Rattle.reader.specs.declared.reader.Reader.{Reader}
-use Rattle.ledger.specs.Pools.{messageChecks, allMessages, allGrants, chargedTo, paidTo, grantedTo, grantsIn}
-use Rattle.ledger.specs.Audit.{passes, freshLedger, auditing, reported}
-use Rattle.ledger.specs.declared.receiver.Receiver.{Receiver}
+use Rattle.pools.specs.Pools.{messageChecks, allMessages, allGrants, chargedTo, paidTo, grantedTo, grantsIn}
+use Rattle.ledger.specs.Audit.{freshLedger, auditing, reported}
+use Rattle.pools.specs.declared.receiver.Receiver.{Receiver}
 use Rattle.ledger.specs.declared.ledger.Ledger.{Ledger}
 use Rattle.ledger.specs.declared.ledger.Reported.{Reported}
 use Rattle.ledger.specs.declared.ledger.Reported.the-variants as report

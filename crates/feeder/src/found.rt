@@ -3,10 +3,10 @@ ghost use mathlib.Core.Path.{_≡_};
 ghost use Prim.Native.Nat.{_≤_};
 ghost use lib.ListN.{length};
 ghost use Rattle.feeder.specs.Due.{responseBy, belongsBy, foundAt};
-use container::byte_at;
 use message::count_responses;
 use record::First;
 use record::read_record;
+use slices::byte_at;
 
 // One of the two waiting lists, or neither.
 pub enum Waiting {

@@ -10,18 +10,19 @@ use lib.Seq.{getD-append-add}
 use lib.Dec.{eqb, ltb}
 use borrow.Author.Tests.{eqb-true, ltb-true, leb-true, eq-eqb, ne-eqb, lt-ltb, le-leb}
 use Rattle.lists.proofs.Tests.{and-left, and-right, and-both}
-use Rattle.cause.specs.Checks.{Pass, firstFault}
+use Rattle.cause.specs.Checks.{Pass, firstFault, passes}
 use Rattle.cause.specs.declared.Verdict.the-variants.{Sound}
 use Rattle.cause.proofs.CheckLaws.{sound-pass, pass-sound, pass-front, pass-back, pass-append}
 use Rattle.message.specs.Charges.{charges}
 use Rattle.reader.specs.Reading.{readerOk, carried, stateChecks, judgeChecks, nextReader}
 use Rattle.reader.specs.declared.reader.Reader.{Reader}
 use Rattle.reader.proofs.CarryLaws.{next-valid}
-use Rattle.ledger.specs.Pools.{messageChecks, allMessages, allGrants, chargedTo, paidTo, grantedTo}
-use Rattle.ledger.specs.Audit.{receiverOf, readerOf, heldOf, openOf, passes, ledgerOk, opposite, begun, finished, granted, heldChecks, roomChecks, auditChecks, row, table, heldAfter, openAfter, nextLedger}
+use Rattle.pools.specs.Pools.{messageChecks, allMessages, allGrants, chargedTo, paidTo, grantedTo}
+use Rattle.ledger.specs.Audit.{receiverOf, readerOf, heldOf, openOf, ledgerOk, opposite, begun, finished, granted, heldChecks, roomChecks, auditChecks, heldAfter, openAfter, nextLedger}
+use Rattle.pools.specs.Rows.{row, table}
 use Rattle.ledger.specs.declared.ledger.Ledger.{Ledger}
 use Rattle.container.specs.declared.grant.Grant.{Grant}
-use Rattle.ledger.proofs.RowLaws.{row-at, length-row}
+use Rattle.pools.proofs.RowLaws.{row-at, length-row}
 use Rattle.ledger.proofs.ValidLaws.{ValidDirection, ledger-valid, valid-ledger}
 use Rattle.ledger.proofs.CarriedLaws.{paid-kept, next-passes}
 

@@ -26,19 +26,21 @@ use Rattle.reader.specs.declared.reader.Reader.{Reader}
 use Rattle.reader.proofs.AnswerLaws.{judge-state}
 use Rattle.reader.proofs.CarryLaws.{next-valid}
 use Rattle.reader.proofs.NextLaws.{carry-part, valid-short}
-use Rattle.ledger.specs.Pools.{allMessages, allGrants, grantChecks, chargedTo, paidTo, grantedBy, grantedTo}
-use Rattle.ledger.specs.Audit.{receiverOf, readerOf, ledgerOk, opposite, begun, granted, heldChecks, roomChecks, auditChecks, row, auditing}
-use Rattle.ledger.specs.Counting.{startsChecks, startsPay, crdtChecks, crdtGives, Tallied, shortChecks, overChecks, nested, flattened, entryOf, rows, settledHeld, settledOpen, entered, bookChecks, settling}
-use Rattle.ledger.specs.declared.receiver.Receiver.{Receiver}
+use Rattle.pools.specs.Pools.{allMessages, allGrants, grantChecks, chargedTo, paidTo, grantedBy, grantedTo}
+use Rattle.ledger.specs.Audit.{receiverOf, readerOf, ledgerOk, opposite, begun, granted, heldChecks, roomChecks, auditChecks, auditing}
+use Rattle.pools.specs.Rows.{row, nested, flattened, entryOf, rows}
+use Rattle.pools.specs.Tallies.{startsChecks, startsPay, crdtChecks, crdtGives, Tallied, begunTally, grantsGive, grantedTally}
+use Rattle.ledger.specs.Counting.{shortChecks, overChecks, settledHeld, settledOpen, entered, bookChecks, settling}
+use Rattle.pools.specs.declared.receiver.Receiver.{Receiver}
 use Rattle.ledger.specs.declared.ledger.Ledger.{Ledger}
 use Rattle.ledger.specs.declared.ledger.Answer.the-variants as answer
 use Rattle.ledger.specs.declared.ledger.Step.{Step}
-use Rattle.ledger.specs.declared.tally.Tally.{Tally}
-use Rattle.ledger.proofs.RowLaws.{row-equal}
-use Rattle.ledger.proofs.PoolLoops.{Checks}
+use Rattle.pools.specs.declared.tally.Tally.{Tally}
+use Rattle.pools.proofs.RowLaws.{row-equal}
+use Rattle.pools.proofs.PoolLoops.{Checks}
 use Rattle.ledger.proofs.BookLaws.{short-checks, over-checks}
-use Rattle.ledger.proofs.PassLaws.{stops-before, goes-behind}
-use Rattle.ledger.proofs.EntryLaws.{starts-checks, starts-pay, crdt-checks, crdt-gives}
+use Rattle.pools.proofs.PassLaws.{stops-before, goes-behind, begun-is, granted-is}
+use Rattle.pools.proofs.EntryLaws.{starts-checks, starts-pay, crdt-checks, crdt-gives}
 use Rattle.ledger.proofs.ValidLaws.{ledger-valid}
 use Rattle.ledger.proofs.SettleLaws.{skip, paidRow, givenRow, settles}
 
@@ -61,6 +63,11 @@ row-short : (l : List ℕ) (e : ℕ) → length (getD (nested l) e []) ≤ 14
 row-short l zero = rw (length-take 14 l) (omega arith)
 row-short l (suc zero) = rw (length-take 14 (drop 14 l)) (omega arith)
 row-short l (suc (suc e)) = omega arith
+
+-- RP of a header's grant
+pub grant-plane : (f : ℕ) (c : List ℕ) {g : Grant} → g ≡ headerGrant (formatOf f) c → g .rp < 8
+grant-plane f c {g} e =
+    let q : g .rp ≡ header (formatOf f) c 2 / 2 % 8 = ap (λ (x : Grant). x .rp) e in omega arith
 
 -- an entry that reads, by the verdicts of 15 and then 16
 module _ (s : Ledger) (d : ℕ) (next : Reader) (begun granted : List ℕ) {held : List (List ℕ)} (eh : held ≡ nested (s .held)) {v : Verdict}
@@ -182,7 +189,10 @@ module _ (s : Ledger) (d : ℕ) (c : List ℕ) where
       next-short {q} e = valid-short q (ap readerOk e ∙ next-valid (readerOf s d) c j)
 
       -- 14 by the messages that start
-      module _ {r : Receiver} (er : r ≡ receiverOf s d) {w : ℕ} (ew : w ≡ msgStart (formatOf (s .format)) c) {t : Tally} (et : Tallied (startsChecks r c w 12 0) (startsPay c w 12 0) t) where
+      module _ {r : Receiver} (er : r ≡ receiverOf s d) {w : ℕ} (ew : w ≡ msgStart (formatOf (s .format)) c) {t : Tally} (counted : t ≡ begunTally r c w) where
+        et : Tallied (startsChecks r c w 12 0) (startsPay c w 12 0) t
+        et = begun-is r c w n counted
+
         begun-verdict : t .verdict ≡ firstFault messages
         unfolding begun
         begun-verdict =
@@ -200,8 +210,10 @@ module _ (s : Ledger) (d : ℕ) (c : List ℕ) where
             audit-refused (entry-sound ∙ skip state (messages ++ (grants ++ pools)) reads ∙ sym (stops-before messages (grants ++ pools) begun-verdict e) ∙ e) ex
 
         -- 14 by the grants
-        module _ (sound : t .verdict ≡ Sound) {q : Receiver} (eq : q ≡ receiverOf s o) {g : Grant} (eg : g ≡ headerGrant (formatOf (s .format)) c) {u : Tally}
-            (eu : Tallied (grantChecks q g ++ crdtChecks q c w 12 0) (λ p. grantedBy p g + crdtGives c w 12 0 p) u) where
+        module _ (sound : t .verdict ≡ Sound) {q : Receiver} (eq : q ≡ receiverOf s o) {g : Grant} (eg : g ≡ headerGrant (formatOf (s .format)) c) {u : Tally} (given : u ≡ grantedTally q g c w) where
+          eu : Tallied (grantChecks q g ++ crdtChecks q c w 12 0) (grantsGive g c w) u
+          eu = granted-is q c w g n (grant-plane (s .format) c eg) given
+
           begun-pass : Pass messages
           begun-pass = sound-pass messages (sym begun-verdict ∙ sound)
 
@@ -227,8 +239,3 @@ module _ (s : Ledger) (d : ℕ) (c : List ℕ) where
           audit-settles e en ex =
               ex ∙ (λ i. settling s d (en i) (begun-counts sound i) (granted-counts e i))
               ∙ sym (settles s d c h v n reads begun-pass (sound-pass grants (sym granted-verdict ∙ e)))
-
--- RP of a header's grant
-pub grant-plane : (f : ℕ) (c : List ℕ) {g : Grant} → g ≡ headerGrant (formatOf f) c → g .rp < 8
-grant-plane f c {g} e =
-    let q : g .rp ≡ header (formatOf f) c 2 / 2 % 8 = ap (λ (x : Grant). x .rp) e in omega arith

@@ -16,8 +16,9 @@ use Rattle.cause.specs.declared.Cause.the-variants.{ContainerLength, MissingPoo
 use Rattle.container.specs.Layout.{Format, formatOf}
 use Rattle.container.specs.Lawful.{Lawful}
 use Rattle.container.proofs.Formats.{lawful-of}
-use Rattle.reader.proofs.Keeps.{cellOf}
-use Rattle.reader.specs.Reading.{carryOk, carried}
+use Rattle.placement.proofs.Keeps.{cellOf}
+use Rattle.placement.specs.Cells.{carryOk}
+use Rattle.reader.specs.Reading.{carried}
 use Rattle.reader.proofs.CarryLaws.{reader-ok}
 use Rattle.ledger.specs.Audit.{readerOf, directionOk, ledgerOk, auditing}
 use Rattle.ledger.specs.declared.ledger.Ledger.{Ledger}
@@ -26,11 +27,10 @@ use Rattle.ledger.proofs.ValidLaws.{direction-valid}
 use Rattle.ledger.proofs.ValidLedgerLaws.{ledger-exactly}
 use Rattle.ledger.specs.Faults.{AuditFault}
 use Rattle.cause.specs.Order.{rank, NamedBy, NoneBy}
-use Rattle.cause.proofs.NamedLaws.{turnOf}
+use Rattle.cause.proofs.NamedLaws.{turnOf, NumberedBy, Clean, Same, first-named-by, none-named-by}
 use Rattle.ledger.proofs.EntryFaults.{AuditCells}
-use Rattle.reader.proofs.ReadFaults.{chain}
+use Rattle.cause.proofs.RankedLaws.{chain}
 use Rattle.ledger.proofs.AuditFaults.{Turned, audit-first, audit-none}
-use Rattle.cause.proofs.NamedLaws.{NumberedBy, Clean, Same, first-named-by, none-named-by}
 use Rattle.reader.proofs.ContainerTable.{cells-late, rows-late, Before, row-of, of-row, starts-in, starts-cell}
 
 module _ (s : Ledger) (d : ℕ) (c : List ℕ) where

@@ -10,12 +10,12 @@ use lib.Dec.{eqb, leb}
 use borrow.Author.Tests.{eq-eqb, ne-eqb}
 use Rattle.lists.proofs.Fill.{grown, grown-more, grown-all}
 use Rattle.cause.specs.declared.Cause.the-variants.{BegunOverGranted, GrantedOverCapacity}
-use Rattle.ledger.specs.Audit.{row}
-use Rattle.ledger.specs.Counting.{shortChecks, overChecks, rowsOk, entryOf, rows, settledHeld, settledOpen}
-use Rattle.ledger.specs.declared.kinds.Credits.{Credits}
-use Rattle.ledger.proofs.PoolLoops.{Tests, Checks}
-use Rattle.ledger.proofs.RowLaws.{length-row, row-at, row-same}
-use Rattle.ledger.proofs.TableLaws.{Rows}
+use Rattle.pools.specs.Rows.{row, entryOf, rows}
+use Rattle.ledger.specs.Counting.{shortChecks, overChecks, rowsOk, settledHeld, settledOpen}
+use Rattle.pools.specs.declared.kinds.Credits.{Credits}
+use Rattle.pools.proofs.PoolLoops.{Tests, Checks}
+use Rattle.pools.proofs.RowLaws.{length-row, row-at, row-same}
+use Rattle.pools.proofs.TableLaws.{Rows}
 
 -- begun against held, pool by pool
 pub short-checks : (held begun : List ℕ) → Checks (shortChecks held begun) (λ p. leb (getD begun p 0) (getD held p 0)) BegunOverGranted

@@ -10,19 +10,18 @@ use lib.ListN.{length, getD, replicate}
 use lib.Seq.{take-at}
 use Rattle.lists.specs.Pick.{pick}
 use Rattle.lists.proofs.Tests.{cases}
-use Rattle.cause.specs.Checks.{Pass, firstFault}
+use Rattle.cause.specs.Checks.{Pass, firstFault, passes}
 use Rattle.cause.specs.declared.Verdict.the-variants.{Sound}
 use Rattle.cause.proofs.CheckLaws.{pass-sound, pass-front, pass-back}
 use Rattle.container.specs.Layout.{formatOf}
 use Rattle.message.specs.Charges.{charges, chargesBy, listed}
-use Rattle.reader.specs.Cells.{cells, endings, startings, carryAfter}
-use Rattle.reader.specs.Checking.{granuleChecks}
+use Rattle.placement.specs.Cells.{cells, endings, startings, carryAfter}
+use Rattle.placement.specs.Checking.{granuleChecks}
 use Rattle.reader.specs.Reading.{readerOk, carried, stateChecks, nextReader}
 use Rattle.reader.specs.declared.reader.Reader.{Reader}
 use Rattle.reader.proofs.CarryLaws.{granules-pass, reader-ok}
-use Rattle.ledger.specs.Pools.{messageChecks, paymentChecks, allMessages, chargedTo, paidTo}
-use Rattle.ledger.specs.Audit.{passes}
-use Rattle.ledger.specs.declared.receiver.Receiver.{Receiver}
+use Rattle.pools.specs.Pools.{messageChecks, paymentChecks, allMessages, chargedTo, paidTo}
+use Rattle.pools.specs.declared.receiver.Receiver.{Receiver}
 use Rattle.ledger.proofs.HeadSums.{headOf, headsOf, heads-kept}
 
 -- ---- messages by their heads

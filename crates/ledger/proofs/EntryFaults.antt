@@ -11,11 +11,11 @@ use Rattle.cause.specs.declared.Cause.the-variants.{ContainerLength, MissingPoo
 use Rattle.container.specs.Layout.{formatOf}
 use Rattle.container.specs.Grants.{headerGrant}
 use Rattle.message.specs.Heads.{typeOf, opOf, miscU, crdtGrant}
-use Rattle.reader.specs.Cells.{Cell}
-use Rattle.reader.proofs.Keeps.{cellOf}
+use Rattle.placement.specs.Cells.{Cell}
+use Rattle.placement.proofs.Keeps.{cellOf}
 use Rattle.reader.specs.Reading.{carried}
-use Rattle.ledger.specs.PoolRules.{grantIn, capacityOf}
-use Rattle.ledger.specs.Pools.{paidTo, grantedTo}
+use Rattle.pools.specs.PoolRules.{grantIn, capacityOf}
+use Rattle.pools.specs.Pools.{paidTo, grantedTo}
 use Rattle.ledger.specs.Audit.{receiverOf, readerOf, heldOf, openOf, ledgerOk, opposite, begun, granted}
 use Rattle.ledger.specs.declared.ledger.Ledger.{Ledger}
 use Rattle.ledger.specs.Faults.{PaymentFault, GrantFault}

@@ -13,9 +13,8 @@ use Rattle.cause.specs.Checks.{Pass}
 use Rattle.container.specs.Layout.{Format, formatOf}
 use Rattle.message.specs.Heads.{typeOf, opOf, msgSize}
 use Rattle.message.proofs.HeadLaws.{size-of}
-use Rattle.reader.specs.Cells.{Cell, cellAt, whole, after, ended, cells, carryAfter, endings, startings}
-use Rattle.reader.specs.Checking.{granuleChecks}
-use Rattle.reader.specs.Reading.{carryOk}
+use Rattle.placement.specs.Cells.{Cell, cellAt, whole, after, ended, cells, carryAfter, endings, startings, carryOk}
+use Rattle.placement.specs.Checking.{granuleChecks}
 use Rattle.reader.proofs.CarryLaws.{Cased, goes, begins, fits, rests, wholeOf, leftOf, Passing, first-cased, rest-passing, all-passing}
 
 module _ (q : ℕ → ℕ → ℕ) (none : q 0 0 ≡ 0) where

@@ -20,15 +20,15 @@ use Rattle.cause.proofs.CheckLaws.{pass-sound, sound-pass, pass-append}
 use Rattle.container.specs.Layout.{Format, formatOf, msgStart, bit}
 use Rattle.container.specs.Grants.{grantOf, headerGrant}
 use Rattle.container.specs.declared.grant.Grant.{Grant}
-use Rattle.reader.specs.Cells.{cells, carryAfter, endings, startings}
-use Rattle.reader.specs.Checking.{granuleChecks, groupChecks, containerChecks}
+use Rattle.placement.specs.Cells.{cells, carryAfter, endings, startings}
+use Rattle.placement.specs.Checking.{granuleChecks, groupChecks, containerChecks}
 use Rattle.reader.specs.Reading.{carried, readerWith, stateChecks, judgeChecks, nextReader}
 use Rattle.reader.specs.declared.reader.Reader.{Reader}
 use Rattle.reader.specs.declared.reader.Judgement.the-variants as judgement
 use Rattle.reader.proofs.AnswerLaws.{judge-state, judge-sound, judged-accepted}
 use Rattle.reader.proofs.CarryLaws.{reader-ok}
 use Rattle.reader.proofs.LinkLaws.{judging-same}
-use Rattle.ledger.specs.Pools.{capacitiesOk, allMessages, allGrants, grantsIn, grantedTo, paidTo}
+use Rattle.pools.specs.Pools.{capacitiesOk, allMessages, allGrants, grantsIn, grantedTo, paidTo}
 use Rattle.ledger.specs.Audit.{receiverOf, readerOf, heldOf, openOf, ledgerOk, opposite, begun, finished, granted, heldChecks, roomChecks, auditChecks, heldAfter, openAfter, nextLedger, auditing}
 use Rattle.ledger.specs.Counting.{resting}
 use Rattle.ledger.specs.Idle.{idleFrom}

@@ -6,19 +6,20 @@ use mathlib.Core.List.{List, []}
 use native.Mathlib.Omega.{arith}
 use lib.ListN.{getD}
 use borrow.Author.Tests.{not-true, not-false}
-use Rattle.cause.specs.Checks.{firstFault}
+use Rattle.cause.specs.Checks.{firstFault, passes}
 use Rattle.cause.specs.declared.Cause.{Cause}
 use Rattle.cause.specs.declared.Verdict.{Verdict}
 use Rattle.cause.specs.declared.Verdict.the-variants.{Sound, Faulty}
 use Rattle.message.specs.Charges.{charges}
 use Rattle.reader.specs.Reading.{readerOk, carried}
 use Rattle.reader.specs.declared.reader.Reader.{Reader}
-use Rattle.ledger.specs.Pools.{receiverOk, paymentChecks, messageChecks, chargedTo}
-use Rattle.ledger.specs.Audit.{receiverOf, readerOf, poolsOk, passes, directionOk, row}
-use Rattle.ledger.specs.Counting.{nested, rowsOk, pooled}
-use Rattle.ledger.specs.declared.receiver.Receiver.{Receiver}
+use Rattle.pools.specs.Pools.{receiverOk, paymentChecks, messageChecks, chargedTo}
+use Rattle.ledger.specs.Audit.{receiverOf, readerOf, poolsOk, directionOk}
+use Rattle.pools.specs.Rows.{row, nested}
+use Rattle.ledger.specs.Counting.{rowsOk, pooled}
+use Rattle.pools.specs.declared.receiver.Receiver.{Receiver}
 use Rattle.ledger.specs.declared.ledger.Ledger.{Ledger}
-use Rattle.ledger.proofs.RowLaws.{row-at}
+use Rattle.pools.proofs.RowLaws.{row-at}
 use Rattle.ledger.proofs.SettleLaws.{nested-entry}
 
 -- a test behind another

@@ -14,7 +14,7 @@ use Rattle.cause.specs.declared.Cause.the-variants.{InvalidState}
 use Rattle.cause.specs.declared.Verdict.the-variants.{Sound, Faulty}
 use Rattle.ledger.specs.Audit.{heldOf, openOf, ledgerOk, configured, opening, reported}
 use Rattle.ledger.specs.ValidLedger.{ValidLedger}
-use Rattle.ledger.specs.declared.receiver.Receiver.{Receiver}
+use Rattle.pools.specs.declared.receiver.Receiver.{Receiver}
 use Rattle.ledger.specs.declared.ledger.Ledger.{Ledger}
 use Rattle.ledger.specs.declared.ledger.Reported.{Reported}
 use Rattle.ledger.specs.declared.ledger.Reported.the-variants as report

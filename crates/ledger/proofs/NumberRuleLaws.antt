@@ -16,15 +16,15 @@ use Rattle.cause.specs.declared.Cause.the-variants.{BrokenRecord, InvalidState}
 use Rattle.record.specs.Number.{readNumber}
 use Rattle.record.specs.declared.number.Number.{Number}
 use Rattle.record.specs.declared.number.Number.the-variants.{Broken, Value}
-use Rattle.ledger.specs.Pools.{hasPool}
-use Rattle.ledger.specs.PoolRules.{Exists}
+use Rattle.pools.specs.Pools.{hasPool}
+use Rattle.pools.specs.PoolRules.{Exists}
 use Rattle.ledger.specs.Log.{wrong, set-up, settingFrom, settingOf, valueOk, suits, receiverAt}
 use Rattle.ledger.specs.LogRules.{Suits, Numbers, ConfigurationFault}
 use Rattle.ledger.specs.LogRules.Suits.{format, planes, push, capacity}
 use Rattle.ledger.specs.LogRules.Numbers.{none, next}
 use Rattle.ledger.specs.LogRules.ConfigurationFault.{broken, invalid}
-use Rattle.ledger.specs.declared.receiver.Receiver.{Receiver}
-use Rattle.ledger.proofs.PoolRuleLaws.{exists-exactly}
+use Rattle.pools.specs.declared.receiver.Receiver.{Receiver}
+use Rattle.pools.proofs.PoolRuleLaws.{exists-exactly}
 use Rattle.ledger.proofs.SettingLaws.{setting-broken, setting-wrong, setting-on, setting-done}
 use Rattle.ledger.proofs.SettingValid.{value-same, value-at, suits-capacity}
 

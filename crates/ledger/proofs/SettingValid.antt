@@ -18,13 +18,13 @@ use Rattle.lists.proofs.PartLaws.{getD-part}
 use Rattle.record.specs.Number.{readNumber}
 use Rattle.record.specs.declared.number.Number.{Number}
 use Rattle.record.specs.declared.number.Number.the-variants.{Broken, Value}
-use Rattle.cause.specs.Checks.{firstFault}
+use Rattle.cause.specs.Checks.{firstFault, passes}
 use Rattle.message.specs.Charges.{charges}
 use Rattle.reader.specs.Reading.{readerOk, carried}
-use Rattle.ledger.specs.Pools.{messageChecks, chargedTo, hasPool, capacityOk, capacitiesOk, receiverOk}
-use Rattle.ledger.specs.Audit.{receiverOf, readerOf, passes, ledgerOk, freshLedger, configured}
+use Rattle.pools.specs.Pools.{messageChecks, chargedTo, hasPool, capacityOk, capacitiesOk, receiverOk}
+use Rattle.ledger.specs.Audit.{receiverOf, readerOf, ledgerOk, freshLedger, configured}
 use Rattle.ledger.specs.Log.{Setting, wrong, set-up, settingFrom, settingOf, numberThen, valueOk, suits, receiverAt, ledgerOf}
-use Rattle.ledger.specs.declared.receiver.Receiver.{Receiver}
+use Rattle.pools.specs.declared.receiver.Receiver.{Receiver}
 use Rattle.ledger.proofs.ValidLaws.{ValidDirection, valid-ledger}
 
 -- ---- a number is judged by those before it

@@ -18,11 +18,12 @@ use Rattle.cause.proofs.CheckLaws.{pass-sound, first-append}
 use Rattle.message.specs.Charges.{charges}
 use Rattle.reader.specs.Reading.{carried, stateChecks, nextReader}
 use Rattle.reader.specs.declared.reader.Reader.{Reader}
-use Rattle.ledger.specs.Pools.{allMessages, allGrants, chargedTo, paidTo, grantedTo}
-use Rattle.ledger.specs.Audit.{receiverOf, readerOf, ledgerOk, opposite, begun, granted, heldChecks, roomChecks, auditChecks, row, table, heldAfter, openAfter, nextLedger, answerOf, auditing}
-use Rattle.ledger.specs.Counting.{shortChecks, overChecks, nested, flattened, entryOf, rows, settledHeld, settledOpen, entered, bookChecks, settling}
+use Rattle.pools.specs.Pools.{allMessages, allGrants, chargedTo, paidTo, grantedTo}
+use Rattle.ledger.specs.Audit.{receiverOf, readerOf, ledgerOk, opposite, begun, granted, heldChecks, roomChecks, auditChecks, heldAfter, openAfter, nextLedger, answerOf, auditing}
+use Rattle.pools.specs.Rows.{row, table, nested, flattened, entryOf, rows}
+use Rattle.ledger.specs.Counting.{shortChecks, overChecks, settledHeld, settledOpen, entered, bookChecks, settling}
 use Rattle.ledger.specs.declared.ledger.Ledger.{Ledger}
-use Rattle.ledger.proofs.RowLaws.{row-at, row-equal}
+use Rattle.pools.proofs.RowLaws.{row-at, row-equal}
 use Rattle.ledger.proofs.AcceptedLaws.{Accepted, accepted-by, open-carried, open-next}
 
 -- entry p of row e of a flat table

@@ -6,8 +6,8 @@ use mathlib.Core.Path.{_≡_, sym, ap, ap₂, _∙_}
 use mathlib.Core.List.{List, _++_}
 use lib.ListN.{length, getD, take, drop, length-append, length-drop, take-append-drop}
 use lib.Seq.{length-take-le, getD-take, getD-drop}
-use Rattle.ledger.specs.Audit.{table}
-use Rattle.ledger.proofs.RowLaws.{length-row, row-same, row-equal}
+use Rattle.pools.specs.Rows.{table}
+use Rattle.pools.proofs.RowLaws.{length-row, row-same, row-equal}
 
 pub table-self : (l : List ℕ) → length l ≡ 28 → table (λ e p. getD l (14 * e + p) 0) ≡ l
 table-self l n =

@@ -7,11 +7,11 @@ use lib.ListN.{getD}
 use lib.Dec.{eqb, leb}
 use borrow.Author.Tests.{eqb-true, leb-true, eq-eqb, le-leb}
 use Rattle.lists.proofs.Tests.{and-left, and-right, and-both}
-use Rattle.cause.specs.Checks.{firstFault}
+use Rattle.cause.specs.Checks.{firstFault, passes}
 use Rattle.message.specs.Charges.{charges}
 use Rattle.reader.specs.Reading.{readerOk, carried}
-use Rattle.ledger.specs.Pools.{receiverOk, messageChecks, chargedTo}
-use Rattle.ledger.specs.Audit.{receiverOf, readerOf, heldOf, openOf, poolOk, poolsOk, passes, directionOk, ledgerOk}
+use Rattle.pools.specs.Pools.{receiverOk, messageChecks, chargedTo}
+use Rattle.ledger.specs.Audit.{receiverOf, readerOf, heldOf, openOf, poolOk, poolsOk, directionOk, ledgerOk}
 use Rattle.ledger.specs.declared.ledger.Ledger.{Ledger}
 
 -- direction d of a valid ledger

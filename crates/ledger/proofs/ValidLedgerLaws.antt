@@ -15,15 +15,15 @@ use Rattle.reader.specs.Reading.{carried}
 use Rattle.reader.specs.ValidState.{Part, ValidState}
 use Rattle.reader.specs.declared.reader.Reader.{Reader}
 use Rattle.reader.proofs.ReadRules.{state-exactly}
-use Rattle.ledger.specs.Pools.{receiverOk, chargedTo}
-use Rattle.ledger.specs.PoolRules.{Pays}
+use Rattle.pools.specs.Pools.{receiverOk, chargedTo}
+use Rattle.pools.specs.PoolRules.{Pays}
 use Rattle.ledger.specs.Audit.{receiverOf, readerOf, openOf, directionOk, ledgerOk, configured}
 use Rattle.ledger.specs.ValidLedger.{ValidConfiguration, ValidDirection, ValidLedger}
-use Rattle.ledger.specs.declared.receiver.Receiver.{Receiver}
+use Rattle.pools.specs.declared.receiver.Receiver.{Receiver}
 use Rattle.ledger.specs.declared.ledger.Ledger.{Ledger}
 use Rattle.ledger.proofs.ValidLaws.{direction-valid, valid-direction}
-use Rattle.ledger.proofs.PoolRuleLaws.{receiver-exactly}
-use Rattle.ledger.proofs.PaymentRuleLaws.{pays-exactly, payment-exactly}
+use Rattle.pools.proofs.PoolRuleLaws.{receiver-exactly}
+use Rattle.pools.proofs.PaymentRuleLaws.{pays-exactly, payment-exactly}
 
 pub configured-exactly : (f : ℕ) (a b : Receiver) → (configured f a b ≡ true) ↔ ValidConfiguration f a b
 configured-exactly f a b = (

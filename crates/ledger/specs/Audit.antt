@@ -1,11 +1,11 @@
 -- The audit (document 01, "Pools and the audit" and "Causes and places"): the ledger, its validity, and the audit of an entry.
 use Prim.Native.Nat.{ℕ, zero, suc, _+_, _-_, _*_}
-use mathlib.Core.Bool.{Bool, true, false, _&&_}
+use mathlib.Core.Bool.{Bool, true, _&&_}
 use mathlib.Core.List.{List, [], _∷_, _++_}
 use lib.ListN.{length, getD, replicate}
 use lib.Dec.{eqb, ltb, leb}
 use Rattle.lists.specs.Pick.{pick}
-use Rattle.cause.specs.Checks.{Check, check, firstFault, whenSound}
+use Rattle.cause.specs.Checks.{Check, check, firstFault, whenSound, passes}
 use Rattle.cause.specs.declared.Verdict.{Verdict}
 use Rattle.cause.specs.declared.Verdict.the-variants.{Sound, Faulty}
 use Rattle.cause.specs.declared.Cause.the-variants.{InvalidState, ContainerLength, BegunOverGranted, GrantedOverCapacity}
@@ -13,11 +13,12 @@ use Rattle.container.specs.Layout.{formatOf}
 use Rattle.container.specs.Grants.{headerGrant}
 use Rattle.container.specs.declared.grant.Grant.{Grant}
 use Rattle.message.specs.Charges.{charges}
-use Rattle.reader.specs.Cells.{Cell, cells, endings, startings}
+use Rattle.placement.specs.Cells.{Cell, cells, endings, startings}
 use Rattle.reader.specs.Reading.{readerOk, carried, stateChecks, nextReader}
 use Rattle.reader.specs.declared.reader.Reader.{Reader}
-use Rattle.ledger.specs.Pools.{receiverOk, messageChecks, allMessages, allGrants, chargedTo, paidTo, grantedTo, grantsIn}
-use Rattle.ledger.specs.declared.receiver.Receiver.{Receiver}
+use Rattle.pools.specs.Pools.{receiverOk, messageChecks, allMessages, allGrants, chargedTo, paidTo, grantedTo, grantsIn}
+use Rattle.pools.specs.Rows.{table}
+use Rattle.pools.specs.declared.receiver.Receiver.{Receiver}
 use Rattle.ledger.specs.declared.ledger.Ledger.{Ledger}
 use Rattle.ledger.specs.declared.ledger.Answer.{Answer}
 use Rattle.ledger.specs.declared.ledger.Answer.the-variants as answer
@@ -50,11 +51,6 @@ poolOk s d p =
 unfoldable pub poolsOk : Ledger → ℕ → ℕ → ℕ → Bool
 poolsOk s d zero p = true
 poolsOk s d (suc k) p = poolOk s d p && poolsOk s d k (p + 1)
-
--- every check passes
-abbrev pub passes : Verdict → Bool
-passes Sound = true
-passes (Faulty c p) = false
 
 -- direction d of a valid ledger: its configuration, its carry, whose message would pass 14, and its pools
 abbrev pub directionOk : Ledger → ℕ → Bool
@@ -103,15 +99,6 @@ auditChecks s d c =
     ++ (allMessages (receiverOf s d) (begun s d c)
     ++ (allGrants (receiverOf s (opposite d)) (granted s d c)
     ++ (heldChecks s d (begun s d c) 14 0 ++ roomChecks s (opposite d) (granted s d c) 14 0)))
-
--- the numbers of pools p, p + 1, .., k of them
-unfoldable pub row : (ℕ → ℕ) → ℕ → ℕ → List ℕ
-row f zero p = []
-row f (suc k) p = f p ∷ row f k (p + 1)
-
--- a table of two directions by fourteen pools, one direction behind the other
-abbrev pub table : (ℕ → ℕ → ℕ) → List ℕ
-table f = row (f 0) 14 0 ++ row (f 1) 14 0
 
 -- the numbers of direction e and pool p behind an accepted entry of direction d
 abbrev pub heldAfter : Ledger → ℕ → List ℕ → ℕ → ℕ → ℕ

@@ -9,13 +9,13 @@ use Rattle.container.specs.Layout.{formatOf, granule}
 use Rattle.container.specs.Grants.{headerGrant}
 use Rattle.container.specs.declared.grant.Grant.{Grant}
 use Rattle.message.specs.HeadRules.{Misc}
-use Rattle.reader.specs.Rules.{Starts}
+use Rattle.placement.specs.Rules.{Starts}
 use Rattle.reader.specs.Reading.{carried}
-use Rattle.ledger.specs.PoolRules.{PaysReq, IsData, IsPush, Shared, SharedPush, plane, grantIn, capacityOf}
+use Rattle.pools.specs.PoolRules.{PaysReq, IsData, IsPush, Shared, SharedPush, plane, grantIn, capacityOf}
 use Rattle.ledger.specs.ValidLedger.{ValidConfiguration, ValidLedger}
-use Rattle.ledger.specs.Pools.{paidTo, grantedTo}
+use Rattle.pools.specs.Pools.{paidTo, grantedTo}
 use Rattle.ledger.specs.Audit.{receiverOf, readerOf, heldOf, openOf, opposite, begun, granted}
-use Rattle.ledger.specs.declared.receiver.Receiver.{Receiver}
+use Rattle.pools.specs.declared.receiver.Receiver.{Receiver}
 use Rattle.ledger.specs.declared.ledger.Ledger.{Ledger}
 use Rattle.reader.specs.Faults.{ContainerFault}
 

@@ -1,5 +1,3 @@
-pub mod Pools
-pub mod PoolRules
 pub mod Audit
 pub mod ValidLedger
 pub mod Idle

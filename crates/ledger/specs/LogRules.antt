@@ -9,7 +9,7 @@ use Rattle.cause.specs.declared.Cause.{Cause}
 use Rattle.cause.specs.declared.Cause.the-variants.{BrokenRecord, TooLong, InvalidState}
 use Rattle.record.specs.Number.{readNumber}
 use Rattle.record.specs.declared.number.Number.the-variants.{Broken, Value}
-use Rattle.ledger.specs.PoolRules.{Exists}
+use Rattle.pools.specs.PoolRules.{Exists}
 use Rattle.ledger.specs.Audit.{auditing}
 use Rattle.ledger.specs.Log.{receiverAt}
 use Rattle.ledger.specs.Stream.{most, stoppedAt, started}

@@ -3,9 +3,9 @@ use Prim.Native.Nat.{ℕ, _+_, _≤_, _<_}
 use mathlib.Core.Path.{_≡_}
 use Rattle.reader.specs.Reading.{carried}
 use Rattle.reader.specs.ValidState.{ValidState}
-use Rattle.ledger.specs.PoolRules.{ValidReceiver, capacityOf, Pays, PaysRight}
+use Rattle.pools.specs.PoolRules.{ValidReceiver, capacityOf, Pays, PaysRight}
 use Rattle.ledger.specs.Audit.{receiverOf, readerOf, heldOf, openOf}
-use Rattle.ledger.specs.declared.receiver.Receiver.{Receiver}
+use Rattle.pools.specs.declared.receiver.Receiver.{Receiver}
 use Rattle.ledger.specs.declared.ledger.Ledger.{Ledger}
 
 pub record ValidConfiguration (f : ℕ) (a b : Receiver) : Type 0 where

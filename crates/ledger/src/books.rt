@@ -4,12 +4,13 @@ ghost use mathlib.Core.List.{[]};
 ghost use Prim.Native.Nat.{ℕ, _+_, _-_, _≤_, _<_, _^_};
 ghost use lib.ListN.{getD};
 ghost use Rattle.cause.specs.Checks.{firstFault};
-ghost use Rattle.ledger.specs.Counting.{shortChecks, overChecks, rowsOk, entryOf, rows, settledHeld, settledOpen};
-use crate::kinds::Credits;
-use crate::kinds::Slots;
-use crate::kinds::fit_together;
+ghost use Rattle.ledger.specs.Counting.{shortChecks, overChecks, rowsOk, settledHeld, settledOpen};
+ghost use Rattle.pools.specs.Rows.{entryOf, rows};
 use cause::Cause;
 use cause::Verdict;
+use pools::Credits;
+use pools::Slots;
+use pools::fit_together;
 
 // The lowest pool in which more is begun than held.
 pub(crate) fn judge_begun(held: [[u32; 14]; 2], direction: usize, begun: [u32; 14]) -> Verdict

@@ -4,10 +4,10 @@ ghost use Prim.Native.Nat.{_≤_, _<_};
 ghost use Rattle.cause.specs.declared.Verdict.the-variants.{Faulty};
 ghost use Rattle.ledger.specs.Log.{receiverAt, suits, valueOk, settingOf, settingBy, ledgerOf};
 use crate::ledger::Ledger;
-use crate::receiver::Receiver;
-use crate::table::take_row;
 use cause::Cause;
 use cause::Verdict;
+use pools::Receiver;
+use pools::take_row;
 use record::Number;
 use record::read_number;
 

@@ -3,7 +3,7 @@ ghost use mathlib.Core.Path.{_≡_};
 ghost use lib.ListN.{length};
 ghost use Rattle.container.specs.Layout.{formatOf};
 ghost use Rattle.ledger.specs.Idle.{idleFrom};
-use container::is_zero;
+use slices::is_zero;
 
 // Whether format X has zeros outside bytes 60-63, 124 and 125.
 fn is_idle_x(container: &[u8]) -> bool

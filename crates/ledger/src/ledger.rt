@@ -11,26 +11,26 @@ ghost use Rattle.container.specs.Grants.{headerGrant};
 ghost use Rattle.reader.specs.Reading.{judgeChecks, nextReader, carried};
 ghost use Rattle.ledger.specs.Audit.{receiverOf, readerOf, directionOk, ledgerOk, configured, opening, auditing, reported};
 ghost use Rattle.ledger.specs.Counting.{pooled, resting, settling, entered};
-use crate::begun::tally_begun;
 use crate::books::judge_begun;
 use crate::books::judge_granted;
 use crate::books::keeps_books;
 use crate::books::settle_held;
 use crate::books::settle_opened;
-use crate::granted::tally_granted;
 use crate::idle::is_idle;
-use crate::kinds::Credits;
-use crate::kinds::Slots;
-use crate::receiver::Receiver;
-use crate::table::flatten;
-use crate::table::nest;
-use crate::tally::count_carry;
 use cause::Cause;
 use cause::Verdict;
 use container::Grant;
-use container::byte_at;
+use pools::Credits;
+use pools::Receiver;
+use pools::Slots;
+use pools::count_carry;
+use pools::flatten;
+use pools::nest;
+use pools::tally_begun;
+use pools::tally_granted;
 use reader::Judgement;
 use reader::Reader;
+use slices::byte_at;
 
 // A format, the receivers and the carries of both directions, and for each direction and pool, at 14 · direction + pool, the credits
 // held and the messages open.

@@ -1,20 +1,12 @@
 // The audit of both directions of a link: receivers, pools and the ledger (document 01, "Pools and the audit").
-mod begun;
 mod books;
 mod configuration;
 mod entries;
-mod granted;
 mod idle;
-mod kinds;
 mod ledger;
 mod log;
-mod receiver;
-mod table;
-mod tally;
 
 pub use entries::Run;
-pub use kinds::Credits;
-pub use kinds::Slots;
 pub use ledger::Answer;
 pub use ledger::Ledger;
 pub use ledger::Opened;
@@ -24,4 +16,3 @@ pub use log::Consumed;
 pub use log::LogReader;
 pub use log::LogVerdict;
 pub use log::Outcome;
-pub use receiver::Receiver;

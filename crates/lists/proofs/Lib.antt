@@ -7,3 +7,4 @@ pub mod ReorderLaws
 pub mod PartLaws
 pub mod ZeroLaws
 pub mod Fill
+pub mod FailLaws

@@ -6,7 +6,7 @@ use mathlib.Core.Logic.{⊎-elim}
 use native.Mathlib.Omega.{arith}
 use native.Mathlib.Nat.{zero-add}
 use borrow.Rule.Slice.PartMut.{putMid}
-use lib.ListN.{getD, length, take, drop, set, replicate, length-append, length-drop, length-replicate, length-set, List·getD-append, List·getD-eq-default, drop-of-length-le}
+use lib.ListN.{getD, length, take, drop, set, replicate, length-append, length-drop, length-take, length-replicate, length-set, List·getD-append, List·getD-eq-default, drop-of-length-le}
 use lib.Seq.{take-all, take-at, drop-at, length-take-le, drop-drop, getD-take, getD-drop, ext-getD, getD-append-add, getD-set-other, take-append-le, drop-append-le}
 use Rattle.lists.specs.Parts.{part, put, pad, IsBytes}
 use Rattle.lists.proofs.Order.{lt-or-le}
@@ -26,12 +26,19 @@ length-rest s at = rw (rest-is s at) (length-drop at s)
 pub bytes-drop : (l : List ℕ) (at : ℕ) → IsBytes l → IsBytes (drop at l)
 bytes-drop l at h i = rw (getD-drop at l i 0) (h (at + i))
 
+-- element i of a part, 0 where the list has none
+pub part-at : (s n : ℕ) (c : List ℕ) (i : ℕ) → i < n → getD (part s n c) i 0 ≡ getD c (s + i) 0
+part-at s n c i k = getD-take n (drop s c) i 0 k ∙ getD-drop s c i 0
+
+pub part-most : (s n : ℕ) (c : List ℕ) → length (part s n c) ≤ n
+part-most s n c = rw (length-take n (drop s c)) (omega arith)
+
 module _ (s n : ℕ) (c : List ℕ) (h : s + n ≤ length c) where
   pub length-part : length (part s n c) ≡ n
   length-part = length-take-le n (drop s c) (rw (length-drop s c) (omega arith))
 
   pub getD-part : (i : ℕ) → i < n → getD (part s n c) i 0 ≡ getD c (s + i) 0
-  getD-part i k = getD-take n (drop s c) i 0 k ∙ getD-drop s c i 0
+  getD-part i k = part-at s n c i k
 
 -- a part of what stands before z
 pub part-append : (m z : List ℕ) (s n : ℕ) → s + n ≤ length m → part s n (m ++ z) ≡ part s n m
@@ -108,3 +115,7 @@ getD-pad n x i =
         let e : length x + (i - length x) ≡ i = omega arith in
         subst (λ (j : ℕ). getD (pad n x) j 0 ≡ 0) e (getD-append-add x (replicate (n - length x) 0) (i - length x) 0 ∙ getD-zeros (n - length x) (i - length x))
         ∙ sym (List·getD-eq-default x 0 {n = i} h)
+
+-- zeros behind n bytes are none
+pub pad-whole : (n : ℕ) (x : List ℕ) → length x ≡ n → pad n x ≡ x
+pad-whole n x e = let z : n - length x ≡ 0 = omega arith in rw z (append-nil x)

@@ -7,9 +7,9 @@ ghost use lib.Dec.{ltb};
 ghost use Rattle.lists.specs.Parts.{zeros, part};
 ghost use Rattle.container.specs.Grants.{formOk};
 ghost use Rattle.message.specs.Heads.{opSizes, sizeBy, msgSize, classOf, miscBy, flagBound, pushBy, activationBy, grantBy, wellHeaded, isMessage};
-use container::byte_at;
 use container::is_form;
-use container::is_zero;
+use slices::byte_at;
+use slices::is_zero;
 
 // What a message pays, by its type.
 pub enum Class {

@@ -16,15 +16,15 @@ use Rattle.container.specs.Layout.{formatOf}
 use Rattle.record.specs.Records.{listFault}
 use Rattle.writer.specs.Laying.{filled, owesAfter, usedOf}
 use Rattle.writer.specs.Filling.{tailOf, writerWith, callChecks, fillFault, answerOf, filling}
-use Rattle.writer.specs.Calls.{Fills, zeroGrant}
+use Rattle.round_trip.specs.Calls.{Fills, zeroGrant}
 use Rattle.writer.specs.declared.writer.Writer.{Writer}
 use Rattle.writer.specs.declared.writer.Step.{Step}
 use Rattle.writer.specs.declared.writer.Answer.{Answer}
 use Rattle.writer.specs.declared.writer.Answer.the-variants as answer
 use Rattle.writer.proofs.StateCases.{fill-callable}
 use Rattle.writer.proofs.AnswerLaws.{filling-faulty, filling-sound}
-use Rattle.writer.proofs.RoundTrip.{list-left}
-use Rattle.writer.proofs.Bound.{Going, going-first, going-more, going-fills}
+use Rattle.round_trip.proofs.RoundTrip.{list-left}
+use Rattle.round_trip.proofs.Bound.{Going, going-first, going-more, going-fills}
 
 -- an answer says one thing
 same-used : (a : Answer) (u v : ℕ) → a ≡ answer.Filled u → a ≡ answer.Filled v → u ≡ v

@@ -18,7 +18,7 @@ use Rattle.record.specs.Number.{readNumber}
 use Rattle.record.specs.declared.number.Number.{Number}
 use Rattle.record.specs.declared.number.Number.the-variants.{Broken, Value}
 use Rattle.writer.specs.Filling.{writerWith, opened, fillFault}
-use Rattle.writer.specs.Calls.{zeroGrant}
+use Rattle.round_trip.specs.Calls.{zeroGrant}
 use Rattle.writer.specs.declared.writer.Writer.{Writer}
 use Rattle.writer.specs.declared.writer.Opened.{Opened}
 use Rattle.pack.specs.Packing.{faultBehind, packFault}

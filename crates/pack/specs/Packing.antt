@@ -11,7 +11,7 @@ use Rattle.record.specs.Number.{readNumber}
 use Rattle.record.specs.declared.number.Number.{Number}
 use Rattle.record.specs.declared.number.Number.the-variants.{Broken, Value}
 use Rattle.writer.specs.Filling.{writerWith, fillFault}
-use Rattle.writer.specs.Calls.{zeroGrant}
+use Rattle.round_trip.specs.Calls.{zeroGrant}
 
 -- by the number at its front: 17, 19, then what a new writer finds of the list behind it
 abbrev pub faultBehind : List ℕ → Number → Verdict

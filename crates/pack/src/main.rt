@@ -4,7 +4,7 @@ ghost use mathlib.Core.Path.{_≡_};
 ghost use mathlib.Core.List.{[]};
 ghost use Prim.Native.Nat.{_<_};
 ghost use Rattle.writer.specs.Filling.{writerWith, fillFault, filling};
-ghost use Rattle.writer.specs.Calls.{zeroGrant};
+ghost use Rattle.round_trip.specs.Calls.{zeroGrant};
 ghost use Rattle.pack.specs.Packing.{packFault};
 use cause::Cause;
 use cause::Verdict;

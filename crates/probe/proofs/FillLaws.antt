@@ -41,9 +41,6 @@ use Rattle.probe.specs.Fill.{grantFrom, writerFrom, answerCode, Small, s
 pub same-le : (m n : ℕ) → m ≡ n → m ≤ n
 same-le m n e = omega arith
 
-pub pad-whole : (n : ℕ) (x : List ℕ) → length x ≡ n → pad n x ≡ x
-pad-whole n x e = let z : n - length x ≡ 0 = omega arith in rw z (append-nil x)
-
 pub put-whole : (x d : List ℕ) → length x ≡ length d → put 0 x d ≡ x
 put-whole x d e =
     let h : length d ≤ 0 + length x = omega arith in rw (drop-of-length-le d {i = 0 + length x} h) (append-nil x)

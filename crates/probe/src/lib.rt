@@ -7,10 +7,10 @@ ghost use Rattle.probe.specs.Feed.{feedOf};
 ghost use Rattle.probe.specs.Fill.{grantFrom, Small, answerCode, fillCode, fillTail, fillContainer};
 use cause::number_cause;
 use container::Grant;
-use container::byte_at;
 use feeder::Feed;
 use reader::Judgement;
 use reader::Reader;
+use slices::byte_at;
 use writer::Answer;
 use writer::Writer;
 

@@ -26,13 +26,13 @@ use Rattle.message.proofs.PlaceLaws.{placed-fits}
 use Rattle.record.proofs.NumberLaws.{number-small}
 use Rattle.record.proofs.RecordLaws.{records-append}
 use Rattle.record.specs.Records.{recordsOf}
-use Rattle.reader.specs.Cells.{Cell, owed, cellAt, message, whole, after, ended, cells, carryAfter, endings}
-use Rattle.reader.specs.Checking.{cellChecks, granuleChecks, groupChecks, activationChecks, containerChecks}
-use Rattle.reader.proofs.Keeps.{progress, cellOf, endedTo, KeepsGranule}
-use Rattle.reader.specs.Reading.{carryOk, carried, readerOk, readerWith, stateChecks, judgeChecks, nextReader}
+use Rattle.placement.specs.Cells.{Cell, owed, cellAt, message, whole, after, ended, cells, carryAfter, endings, carryOk}
+use Rattle.placement.specs.Checking.{cellChecks, granuleChecks, groupChecks, activationChecks, containerChecks}
+use Rattle.placement.proofs.Keeps.{progress, cellOf, endedTo, KeepsGranule}
+use Rattle.reader.specs.Reading.{carried, readerOk, readerWith, stateChecks, judgeChecks, nextReader}
 use Rattle.reader.specs.declared.reader.Reader.{Reader}
-use Rattle.reader.proofs.ProgressLaws.{endings-of}
-use Rattle.reader.proofs.KeepsLaws.{granule-exactly}
+use Rattle.placement.proofs.ProgressLaws.{endings-of}
+use Rattle.placement.proofs.KeepsLaws.{granule-exactly}
 
 -- the message that x is or begins with, and what is left where x is not whole
 abbrev pub wholeOf : List ℕ → List (List ℕ)

@@ -12,9 +12,9 @@ use Rattle.container.specs.Layout.{Format, formatOf, header}
 use Rattle.container.specs.Grants.{headerGrant}
 use Rattle.message.specs.Heads.{typeOf, opOf, msgSize, wellHeaded, miscU, activation}
 use Rattle.message.specs.Places.{placed, responses}
-use Rattle.reader.specs.Cells.{Cell}
-use Rattle.reader.specs.Checking.{used, starting}
-use Rattle.reader.proofs.Keeps.{cellOf}
+use Rattle.placement.specs.Cells.{Cell}
+use Rattle.placement.specs.Checking.{used, starting}
+use Rattle.placement.proofs.Keeps.{cellOf}
 use Rattle.reader.specs.Reading.{readerOk, carried}
 use Rattle.reader.specs.declared.reader.Reader.{Reader}
 

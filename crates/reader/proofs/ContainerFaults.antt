@@ -8,7 +8,7 @@ use native.Mathlib.Omega.{arith}
 use lib.ListN.{getD, drop}
 use lib.Seq.{getD-drop}
 use lib.Dec.{T, eqb, ltb}
-use borrow.Author.Tests.{le-ltb, lt-leb, eq-eqb, ne-eqb, ltb-false, leb-false, eqb-true, eqb-false}
+use borrow.Author.Tests.{le-ltb, lt-leb, eq-eqb, ltb-false, leb-false, eqb-true, eqb-false}
 use Rattle.lists.specs.Pick.{pick}
 use Rattle.lists.specs.Parts.{zeros}
 use Rattle.lists.proofs.Tests.{cases, T-true, true-T, never-both, not-true-false, and-false, or-true, and-left, and-right}
@@ -21,30 +21,15 @@ use Rattle.container.specs.Grants.{headerGrant, planeAllowed, noCounts, reserve
 use Rattle.container.specs.declared.grant.Grant.{Grant}
 use Rattle.message.specs.Heads.{typeOf, opOf, msgSize, known, wellHeaded, miscU, activation}
 use Rattle.message.specs.Places.{placed, miscs, responses}
-use Rattle.reader.specs.Cells.{Cell, cells}
-use Rattle.reader.specs.Checking.{used, cellChecks, granuleChecks, populated, noGap, starting, sumOf, oneMisc, fourResponses, groupChecks, headerChecks, activations, quiet, activationChecks, containerChecks}
-use Rattle.reader.proofs.Keeps.{progress, cellOf}
-use Rattle.reader.proofs.ProgressLaws.{listFrom, cells-of}
+use Rattle.placement.specs.Cells.{Cell, cells}
+use Rattle.placement.specs.Checking.{used, cellChecks, granuleChecks, populated, noGap, starting, sumOf, oneMisc, fourResponses, groupChecks, headerChecks, activations, quiet, activationChecks, containerChecks}
+use Rattle.placement.proofs.Keeps.{progress, cellOf}
+use Rattle.placement.proofs.ProgressLaws.{listFrom, cells-of}
 use Rattle.cause.proofs.NamedLaws.{turnOf}
 use Rattle.reader.proofs.CellFaults.{Filled, StartsMisc, StartsActivation, started, CellFault, reserved, form, inside, unknown, place, head, unused, gap, second, many, beside}
-use Rattle.cause.proofs.FirstLaws.{Site, tests, Fails, fails-front, fails-back, Rises, rises-append, rises-from, rises-to, Sounds, sounds-append}
-
--- checks with their turns
-abbrev pub ranked : List Check → List Site
-ranked [] = []
-ranked (x ∷ l) = record { turn = turnOf (x .cause) (x .place); test = x } ∷ ranked l
-
-pub tests-ranked : (l : List Check) → tests (ranked l) ≡ l
-tests-ranked [] = refl
-tests-ranked (x ∷ l) = ap (λ (a : List Check). x ∷ a) (tests-ranked l)
-
-pub ranked-append : (a b : List Check) → ranked (a ++ b) ≡ ranked a ++ ranked b
-ranked-append [] b = refl
-ranked-append (x ∷ a) b = ap (λ (l : List Site). record { turn = turnOf (x .cause) (x .place); test = x } ∷ l) (ranked-append a b)
-
--- a check that fails
-pub fails-as : (b : Bool) (k : Cause) (p : ℕ) → b ≡ false → check b k p ≡ check false k p
-fails-as b k p e = ap (λ (t : Bool). check t k p) e
+use Rattle.cause.proofs.FirstLaws.{Site, Fails, fails-front, fails-back, Rises, rises-append, rises-from, rises-to, Sounds, sounds-append}
+use Rattle.cause.proofs.RankedLaws.{ranked, ranked-append, fails-as}
+use Rattle.lists.proofs.FailLaws.{guard-fails, fail-guard, and-fails, fail-left, fail-right, or-fails, not-zero, zero-not}
 
 -- ---- tests that fail
 both-fail : (a b : Bool) → not (a && b) ≡ false → T a × T b
@@ -56,34 +41,6 @@ fail-both : (a b : Bool) → T a → T b → not (a && b) ≡ false
 fail-both true true s t = refl
 fail-both true false s t = absurd t
 fail-both false b s t = absurd s
-
-pub guard-fails : (a b : Bool) → (not a || b) ≡ false → T a × (b ≡ false)
-guard-fails true b e = (tt, e)
-guard-fails false b e = absurd (never-both e refl)
-
-pub fail-guard : (a b : Bool) → T a → b ≡ false → (not a || b) ≡ false
-fail-guard true b t e = e
-fail-guard false b t e = absurd t
-
-pub and-fails : (a b : Bool) → (a && b) ≡ false → (a ≡ false) ⊎ (b ≡ false)
-and-fails true b e = inr e
-and-fails false b e = inl refl
-
-pub fail-left : (a b : Bool) → a ≡ false → (a && b) ≡ false
-fail-left a b e = rw e
-
-pub fail-right : (a b : Bool) → b ≡ false → (a && b) ≡ false
-fail-right a b e = rw e (and-false a)
-
-pub or-fails : (a b : Bool) → (a || b) ≡ false → (a ≡ false) × (b ≡ false)
-or-fails true b e = absurd (never-both e refl)
-or-fails false b e = (refl, e)
-
-pub not-zero : (n : ℕ) → eqb n 0 ≡ false → 0 < n
-not-zero n e = let d = eqb-false n 0 e in omega arith
-
-pub zero-not : (n : ℕ) → 0 < n → eqb n 0 ≡ false
-zero-not n h = ne-eqb n 0 (λ e. omega arith)
 
 -- ---- a granule
 some-byte : (l : List ℕ) → zeros l ≡ false → (i : ℕ) × (0 < getD l i 0)

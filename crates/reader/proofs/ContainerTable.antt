@@ -19,17 +19,16 @@ use Rattle.message.specs.HeadRules.{Bytes}
 use Rattle.message.specs.Places.{placed}
 use Rattle.message.proofs.HeadRuleLaws.{bytes-size, bytes-some, size-bytes, head-exactly}
 use Rattle.message.proofs.PlaceRuleLaws.{place-exactly}
-use Rattle.reader.specs.Cells.{Cell}
-use Rattle.reader.proofs.Keeps.{progress, cellOf, KeepsGranule}
-use Rattle.reader.specs.Reading.{carryOk}
-use Rattle.reader.specs.Rules.{startBit, Starts, Origin, GoesOn, Populated}
+use Rattle.placement.specs.Cells.{Cell, carryOk}
+use Rattle.placement.proofs.Keeps.{progress, cellOf, KeepsGranule}
+use Rattle.placement.specs.Rules.{startBit, Starts, Origin, GoesOn, Populated}
 use Rattle.reader.proofs.OccupyLaws.{Follow, follow-to, goes-exactly}
 use Rattle.reader.proofs.RulesLaws.{unused-behind, behind-unused}
 use Rattle.reader.specs.Faults.{ContainerFault}
 use Rattle.cause.specs.Order.{rank}
 use Rattle.cause.proofs.NamedLaws.{turnOf}
 use Rattle.reader.proofs.CellFaults.{Filled, StartsMisc, CellFault}
-use Rattle.reader.proofs.ContainerFaults.{not-zero}
+use Rattle.lists.proofs.FailLaws.{not-zero}
 
 module _ (fm : Format) (m c : List ℕ) where
   -- a cell starts exactly where its bit is set

@@ -17,9 +17,8 @@ use Rattle.message.specs.Heads.{typeOf, opOf, msgSize, known, wellHeaded, isMes
 use Rattle.message.proofs.HeadLaws.{size-of, size-append, headed-append, grant-size}
 use Rattle.record.specs.Records.{recordsOf, AllMessages}
 use Rattle.record.proofs.RecordLaws.{Listed}
-use Rattle.reader.specs.Cells.{Cell, cellAt, whole, after, ended, cells, carryAfter, endings, startings}
-use Rattle.reader.specs.Checking.{granuleChecks}
-use Rattle.reader.specs.Reading.{carryOk}
+use Rattle.placement.specs.Cells.{Cell, cellAt, whole, after, ended, cells, carryAfter, endings, startings, carryOk}
+use Rattle.placement.specs.Checking.{granuleChecks}
 use Rattle.reader.proofs.CarryLaws.{Granules, Cased, goes, begins, fits, rests, wholeOf, leftOf, Passing, first-cased, rest-passing, all-passing}
 
 -- what x begins with, where its head is right and all its bytes are there, is a whole message

@@ -16,8 +16,8 @@ use Rattle.cause.proofs.CheckLaws.{first-append}
 use Rattle.container.specs.Layout.{Format, formatOf}
 use Rattle.container.specs.Grants.{headerGrant, noCounts}
 use Rattle.container.specs.declared.grant.Grant.{Grant}
-use Rattle.reader.specs.Cells.{Cell, cellAt, after, cells}
-use Rattle.reader.specs.Checking.{headerChecks, granuleChecks, groupChecks, activationChecks, containerChecks}
+use Rattle.placement.specs.Cells.{Cell, cellAt, after, cells}
+use Rattle.placement.specs.Checking.{headerChecks, granuleChecks, groupChecks, activationChecks, containerChecks}
 use Rattle.reader.specs.Tracking.{marksOf, markChecks, activationMarks, behindGranules, Scanned, Looked}
 use Rattle.reader.specs.declared.track.Track.{Track}
 use Rattle.reader.specs.declared.scan.Scan.{Scan}

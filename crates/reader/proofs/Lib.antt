@@ -1,6 +1,3 @@
-pub mod Keeps
-pub mod ProgressLaws
-pub mod KeepsLaws
 pub mod CarryLaws
 pub mod ReadLaws
 pub mod EndingLaws

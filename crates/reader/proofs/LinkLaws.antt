@@ -18,8 +18,8 @@ use Rattle.container.specs.Lawful.{Lawful, inGranule, howMany}
 use Rattle.container.specs.Grants.{headerGrant}
 use Rattle.container.specs.declared.grant.Grant.{Grant}
 use Rattle.container.proofs.Formats.{lawful-of}
-use Rattle.reader.specs.Cells.{Cell, cellAt, after, cells}
-use Rattle.reader.specs.Checking.{containerChecks}
+use Rattle.placement.specs.Cells.{Cell, cellAt, after, cells}
+use Rattle.placement.specs.Checking.{containerChecks}
 use Rattle.reader.specs.Reading.{carried, stateChecks, judgeChecks, readChecks, nextReader, records, answerOf, reading, readRoom, judgementOf, judging}
 use Rattle.reader.specs.declared.reader.Reader.{Reader}
 

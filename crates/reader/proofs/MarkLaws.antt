@@ -18,8 +18,8 @@ use Rattle.cause.proofs.CheckLaws.{first-append}
 use Rattle.message.specs.Heads.{typeOf}
 use Rattle.message.specs.Places.{responsesBy, responses, miscsBy, miscs}
 use Rattle.message.proofs.PlaceLaws.{responses-most, miscs-most}
-use Rattle.reader.specs.Cells.{Cell}
-use Rattle.reader.specs.Checking.{populated, noGap, starting, sumOf, groupChecks, activations}
+use Rattle.placement.specs.Cells.{Cell}
+use Rattle.placement.specs.Checking.{populated, noGap, starting, sumOf, groupChecks, activations}
 use Rattle.reader.specs.Tracking.{markOf, marksOf, groupBy, markChecks, activationMarks}
 
 -- the counts of a mark, as the code has them, stay below an Activation's bit

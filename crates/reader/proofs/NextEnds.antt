@@ -11,8 +11,8 @@ use Rattle.container.specs.Lawful.{Lawful}
 use Rattle.message.specs.HeadRules.{Bytes}
 use Rattle.message.proofs.HeadLaws.{size-most}
 use Rattle.message.proofs.HeadRuleLaws.{bytes-size}
-use Rattle.reader.specs.Reading.{carryOk}
-use Rattle.reader.specs.Rules.{full}
+use Rattle.placement.specs.Cells.{carryOk}
+use Rattle.placement.specs.Rules.{full}
 use Rattle.reader.specs.Completion.{CarryEnds}
 use Rattle.reader.proofs.OccupyLaws.{full-in}
 use Rattle.reader.proofs.CompletionLaws.{carry-last}

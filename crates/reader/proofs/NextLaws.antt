@@ -16,16 +16,16 @@ use Rattle.cause.specs.declared.Verdict.the-variants.{Sound}
 use Rattle.cause.proofs.CheckLaws.{sound-pass}
 use Rattle.container.specs.Layout.{Format, formatOf, msgStart}
 use Rattle.record.specs.Records.{recordsOf}
-use Rattle.reader.specs.Cells.{cells, carryAfter, endings}
-use Rattle.reader.specs.Checking.{granuleChecks}
-use Rattle.reader.proofs.Keeps.{progress}
-use Rattle.reader.specs.Reading.{readerOk, carryOk, carried, stateChecks, nextReader, records}
+use Rattle.placement.specs.Cells.{cells, carryAfter, endings, carryOk}
+use Rattle.placement.specs.Checking.{granuleChecks}
+use Rattle.placement.proofs.Keeps.{progress}
+use Rattle.reader.specs.Reading.{readerOk, carried, stateChecks, nextReader, records}
 use Rattle.reader.specs.Tracking.{trackOf, trackAt, inProgress, Begun, Looked}
 use Rattle.reader.specs.declared.reader.Reader.{Reader}
 use Rattle.reader.specs.declared.track.Track.{Track}
 use Rattle.reader.specs.declared.scan.Scan.{Scan}
 use Rattle.reader.proofs.CarryLaws.{reader-ok, carry-valid, granules-pass}
-use Rattle.reader.proofs.ProgressLaws.{carry-of}
+use Rattle.placement.proofs.ProgressLaws.{carry-of}
 use Rattle.reader.proofs.TrackLaws.{Follows, follows, firm, carry-firm, gathered-progress}
 
 -- the carry of a reader as the code takes it

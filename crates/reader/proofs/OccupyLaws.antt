@@ -20,11 +20,10 @@ use Rattle.message.specs.Places.{placed}
 use Rattle.message.proofs.HeadLaws.{size-append, size-of}
 use Rattle.message.proofs.HeadRuleLaws.{bytes-size, bytes-some, size-bytes}
 use Rattle.message.proofs.PlaceLaws.{placed-fits}
-use Rattle.reader.specs.Cells.{owed, cellAt, whole, after}
-use Rattle.reader.proofs.Keeps.{progress, cellOf, KeepsGranule}
-use Rattle.reader.specs.Reading.{carryOk}
-use Rattle.reader.specs.Rules.{startBit, Starts, Origin, There, front, next, full, before, GoesOn}
-use Rattle.reader.specs.Rules.Origin.{carry, at}
+use Rattle.placement.specs.Cells.{owed, cellAt, whole, after, carryOk}
+use Rattle.placement.proofs.Keeps.{progress, cellOf, KeepsGranule}
+use Rattle.placement.specs.Rules.{startBit, Starts, Origin, There, front, next, full, before, GoesOn}
+use Rattle.placement.specs.Rules.Origin.{carry, at}
 use Rattle.reader.specs.Completion.{gather, soFar}
 use Rattle.reader.proofs.TrackLaws.{carry-firm}
 

@@ -10,8 +10,8 @@ use Rattle.cause.specs.Checks.{Check, firstFault}
 use Rattle.cause.specs.declared.Cause.{Cause}
 use Rattle.cause.specs.declared.Verdict.the-variants.{Faulty}
 use Rattle.container.specs.Layout.{Format, formatOf}
-use Rattle.reader.specs.Cells.{Cell, cells, cellAt, after}
-use Rattle.reader.specs.Checking.{granuleChecks, groupChecks, activationChecks, containerChecks}
+use Rattle.placement.specs.Cells.{Cell, cells, cellAt, after}
+use Rattle.placement.specs.Checking.{granuleChecks, groupChecks, activationChecks, containerChecks}
 use Rattle.reader.specs.Reading.{carried, stateChecks, readChecks, judgeChecks, reading, judging}
 use Rattle.reader.specs.declared.reader.Reader.{Reader}
 use Rattle.reader.specs.declared.reader.Answer.the-variants as answer

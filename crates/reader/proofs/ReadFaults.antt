@@ -21,15 +21,8 @@ use Rattle.reader.proofs.AnswerLaws.{reading-faulty, judging-faulty, ju
 use Rattle.cause.proofs.NamedLaws.{turnOf}
 use Rattle.reader.proofs.CellFaults.{ReadCells}
 use Rattle.cause.proofs.FirstLaws.{Fails, First, None, Lists, rises-from, listed-first, listed-none}
-use Rattle.reader.proofs.ContainerFaults.{ranked, tests-ranked, fails-as, containerSites, container-complete, container-rises, container-sound}
-
--- a family of faults by cause and place, with its ranks
-abbrev pub Ranked : (Cause → ℕ → Type 0) → ℕ → Cause → ℕ → Type 0
-Ranked F r k p = (turnOf k p ≡ r) × F k p
-
--- a chain of equivalences
-pub chain : {A B C : Type 0} → A ↔ B → B ↔ C → A ↔ C
-chain f g = (λ a. g .0 (f .0 a), λ c. f .1 (g .1 c))
+use Rattle.cause.proofs.RankedLaws.{ranked, tests-ranked, fails-as, Ranked, chain}
+use Rattle.reader.proofs.ContainerFaults.{containerSites, container-complete, container-rises, container-sound}
 
 module _ (s : Reader) (c : List ℕ) where
   abbrev fm : Format

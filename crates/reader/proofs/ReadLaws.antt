@@ -14,12 +14,12 @@ use Rattle.cause.proofs.CheckLaws.{pass-sound, sound-pass}
 use Rattle.container.specs.Layout.{formatOf, msgStart}
 use Rattle.container.specs.Grants.{headerGrant}
 use Rattle.container.specs.declared.grant.Grant.{Grant}
-use Rattle.reader.proofs.Keeps.{Keeps}
+use Rattle.placement.proofs.Keeps.{Keeps}
 use Rattle.reader.specs.Reading.{carried, readerOk, stateChecks, judgeChecks, readChecks, records, answerOf, reading, judgementOf, judging}
 use Rattle.reader.specs.declared.reader.Reader.{Reader}
 use Rattle.reader.specs.declared.reader.Answer.the-variants as answer
 use Rattle.reader.specs.declared.reader.Judgement.the-variants as judgement
-use Rattle.reader.proofs.KeepsLaws.{passes-keeps, keeps-passes}
+use Rattle.placement.proofs.KeepsLaws.{passes-keeps, keeps-passes}
 
 -- an answer that accepts is that of a sound verdict
 answer-exactly : (v : Verdict) (n : ℕ) (grant : Grant) → (answerOf v n grant ≡ answer.Done n grant) ↔ (v ≡ Sound)

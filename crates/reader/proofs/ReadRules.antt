@@ -19,16 +19,16 @@ use Rattle.message.specs.Heads.{msgSize}
 use Rattle.message.specs.HeadRules.{byte}
 use Rattle.message.proofs.HeadRuleLaws.{bytes-size, size-bytes, head-exactly}
 use Rattle.record.specs.Records.{recordsOf}
-use Rattle.reader.specs.Cells.{cells, carryAfter}
-use Rattle.reader.proofs.Keeps.{Keeps, endedTo}
-use Rattle.reader.specs.Reading.{carryOk, carried, readerOk, records, nextReader, reading, readRoom, judging}
-use Rattle.reader.specs.Rules.{Rules}
+use Rattle.placement.specs.Cells.{cells, carryAfter, carryOk}
+use Rattle.placement.proofs.Keeps.{Keeps, endedTo}
+use Rattle.reader.specs.Reading.{carried, readerOk, records, nextReader, reading, readRoom, judging}
+use Rattle.placement.specs.Rules.{Rules}
 use Rattle.reader.specs.Completion.{CarryEnds}
 use Rattle.reader.specs.ValidState.{Part, ValidState, HandsOut}
 use Rattle.reader.specs.declared.reader.Reader.{Reader}
 use Rattle.reader.specs.declared.reader.Answer.the-variants as answer
 use Rattle.reader.specs.declared.reader.Judgement.the-variants as judgement
-use Rattle.reader.proofs.ProgressLaws.{endings-of}
+use Rattle.placement.proofs.ProgressLaws.{endings-of}
 use Rattle.reader.proofs.CarryLaws.{Half, Valid, valid-ok, ok-valid, reader-ok}
 use Rattle.reader.proofs.ReadLaws.{read-sound-exactly, read-exactly, judge-exactly}
 use Rattle.reader.proofs.RulesLaws.{rules-exactly, keeps-followed}

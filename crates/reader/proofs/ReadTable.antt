@@ -16,7 +16,8 @@ use Rattle.container.specs.Layout.{Format, formatOf, msgStart}
 use Rattle.container.specs.Lawful.{Lawful}
 use Rattle.container.specs.Grants.{headerGrant}
 use Rattle.container.proofs.Formats.{lawful-of}
-use Rattle.reader.specs.Reading.{readerOk, carryOk, carried, records, reading, judging}
+use Rattle.reader.specs.Reading.{readerOk, carried, records, reading, judging}
+use Rattle.placement.specs.Cells.{carryOk}
 use Rattle.reader.specs.declared.reader.Reader.{Reader}
 use Rattle.reader.specs.declared.reader.Answer.the-variants as answer
 use Rattle.reader.specs.declared.reader.Judgement.the-variants as judgement
@@ -24,10 +25,10 @@ use Rattle.reader.proofs.CarryLaws.{reader-ok}
 use Rattle.reader.proofs.ReadRules.{state-exactly}
 use Rattle.reader.specs.Faults.{ReadFault, JudgeFault}
 use Rattle.cause.specs.Order.{rank, Named, None}
-use Rattle.cause.proofs.NamedLaws.{turnOf}
+use Rattle.cause.proofs.NamedLaws.{turnOf, Numbered, Clean, Same, first-named, none-named}
 use Rattle.reader.proofs.CellFaults.{ReadCells}
-use Rattle.reader.proofs.ReadFaults.{Ranked, chain, read-first, read-none, judge-first, judge-none}
-use Rattle.cause.proofs.NamedLaws.{Numbered, Clean, Same, first-named, none-named}
+use Rattle.cause.proofs.RankedLaws.{Ranked, chain}
+use Rattle.reader.proofs.ReadFaults.{read-first, read-none, judge-first, judge-none}
 use Rattle.reader.proofs.ContainerTable.{cells-late, rows-late, Before, row-of, of-row}
 
 module _ (s : Reader) (c : List ℕ) (n : ℕ) where

@@ -17,11 +17,10 @@ use Rattle.message.specs.Places.{placed, miscs}
 use Rattle.message.specs.HeadRules.{byte, type, Bytes}
 use Rattle.message.proofs.HeadRuleLaws.{bytes-size, bytes-some, size-bytes, head-exactly, misc-exactly}
 use Rattle.message.proofs.PlaceRuleLaws.{place-exactly}
-use Rattle.reader.specs.Cells.{Cell, owed, cellAt}
-use Rattle.reader.specs.Checking.{used, populated, starting}
-use Rattle.reader.proofs.Keeps.{progress, cellOf, KeepsGranule, KeepsGroup, Keeps}
-use Rattle.reader.specs.Reading.{carryOk}
-use Rattle.reader.specs.Rules.{startBit, Starts, Origin, GoesOn, Populated, Unused, rest, last, empty, GranuleRules, GroupRules, Rules}
+use Rattle.placement.specs.Cells.{Cell, owed, cellAt, carryOk}
+use Rattle.placement.specs.Checking.{used, populated, starting}
+use Rattle.placement.proofs.Keeps.{progress, cellOf, KeepsGranule, KeepsGroup, Keeps}
+use Rattle.placement.specs.Rules.{startBit, Starts, Origin, GoesOn, Populated, Unused, rest, last, empty, GranuleRules, GroupRules, Rules}
 use Rattle.reader.proofs.OccupyLaws.{Follow, follow, on-goes, goes-on, goes-twenty, granule-sized}
 
 -- ---- groups

@@ -17,14 +17,14 @@ use Rattle.cause.specs.declared.Verdict.{Verdict}
 use Rattle.cause.specs.declared.Verdict.the-variants.{Sound, Faulty}
 use Rattle.container.specs.Layout.{Format, formatOf, wide, granule, msgStart, bit}
 use Rattle.message.specs.Heads.{msgSize}
-use Rattle.reader.specs.Cells.{Cell, owed, cells}
-use Rattle.reader.specs.Checking.{starting, startsAlone, startKnown, startPlaced, startHeaded, restZero, cellChecks, granuleChecks}
-use Rattle.reader.proofs.Keeps.{progress, cellOf}
+use Rattle.placement.specs.Cells.{Cell, owed, cells}
+use Rattle.placement.specs.Checking.{starting, startsAlone, startKnown, startPlaced, startHeaded, restZero, cellChecks, granuleChecks}
+use Rattle.placement.proofs.Keeps.{progress, cellOf}
 use Rattle.reader.specs.Tracking.{trackOf, trackBy, trackAfter, trackAt, markOf, marksOf, cellFrom, findingOf, finding, Scanned, Begun}
 use Rattle.reader.specs.declared.track.Track.{Track}
 use Rattle.reader.specs.declared.cell.Finding.{Finding}
 use Rattle.reader.specs.declared.cell.Finding.the-variants.{Fault, Mark}
-use Rattle.reader.proofs.ProgressLaws.{listFrom, cells-of}
+use Rattle.placement.proofs.ProgressLaws.{listFrom, cells-of}
 use Rattle.reader.proofs.TrackLaws.{follows}
 
 -- what a cell's finding makes of the verdict on what comes behind it

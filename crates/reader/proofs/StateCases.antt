@@ -9,7 +9,8 @@ use borrow.Author.Tests.{lt-ltb, le-ltb, le-leb, lt-leb, eq-eqb, ne-eqb}
 use Rattle.lists.specs.Parts.{zeros}
 use Rattle.lists.proofs.PartLaws.{rest-is}
 use Rattle.message.specs.Heads.{msgSize, wellHeaded}
-use Rattle.reader.specs.Reading.{carryOk, carried, readerOk}
+use Rattle.placement.specs.Cells.{carryOk}
+use Rattle.reader.specs.Reading.{carried, readerOk}
 use Rattle.reader.specs.declared.reader.Reader.{Reader}
 
 -- a carry

@@ -17,9 +17,8 @@ use Rattle.container.specs.Layout.{Format, formatOf, wide, granule, msgStart, b
 use Rattle.container.proofs.Formats.{granule-length}
 use Rattle.message.specs.Heads.{typeOf, opOf, msgSize, wellHeaded}
 use Rattle.message.proofs.HeadLaws.{size-append, size-of, size-most}
-use Rattle.reader.specs.Cells.{Cell, owed, cellAt, whole, after, ended}
-use Rattle.reader.proofs.Keeps.{progress}
-use Rattle.reader.specs.Reading.{carryOk}
+use Rattle.placement.specs.Cells.{Cell, owed, cellAt, whole, after, ended, carryOk}
+use Rattle.placement.proofs.Keeps.{progress}
 use Rattle.reader.specs.Tracking.{noTrack, trackOf, trackAfter, trackAt, gathered, gatheredMessage, inProgress, endedBy, Ending, Begun}
 use Rattle.reader.specs.declared.track.Track.{Track}
 

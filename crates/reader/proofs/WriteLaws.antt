@@ -11,12 +11,11 @@ use Rattle.lists.specs.Parts.{put}
 use Rattle.lists.proofs.PartLaws.{length-put}
 use Rattle.container.specs.Layout.{Format, formatOf, msgStart}
 use Rattle.record.specs.Records.{recordsOf}
-use Rattle.reader.specs.Cells.{cells, endings, ended}
-use Rattle.reader.proofs.Keeps.{progress, cellOf, endedTo}
-use Rattle.reader.specs.Reading.{carryOk}
+use Rattle.placement.specs.Cells.{cells, endings, ended, carryOk}
+use Rattle.placement.proofs.Keeps.{progress, cellOf, endedTo}
 use Rattle.reader.specs.Tracking.{trackOf, trackAfter, trackAt, endedBy, Ending}
 use Rattle.reader.specs.declared.track.Track.{Track}
-use Rattle.reader.proofs.ProgressLaws.{endings-of}
+use Rattle.placement.proofs.ProgressLaws.{endings-of}
 use Rattle.reader.proofs.TrackLaws.{Follows, follows, ended-by, ending-sized, carry-firm, firm}
 use Rattle.reader.proofs.CarryLaws.{ended-room}
 use Rattle.reader.proofs.CopyLaws.{put-none, put-more}

@@ -6,7 +6,7 @@ use mathlib.Core.Logic.{_⊎_}
 use lib.ListN.{length}
 use Rattle.container.specs.Layout.{Format, formatOf, granule, header}
 use Rattle.message.specs.HeadRules.{byte, type, Bytes, Misc, RightHead, MayStart}
-use Rattle.reader.specs.Rules.{Starts, Origin, GoesOn, Populated, Unused, responsesAt}
+use Rattle.placement.specs.Rules.{Starts, Origin, GoesOn, Populated, Unused, responsesAt}
 use Rattle.reader.specs.ValidState.{ValidState}
 use Rattle.reader.specs.Reading.{carried}
 use Rattle.reader.specs.declared.reader.Reader.{Reader}

@@ -1,6 +1,6 @@
 -- Reading (document 01, "The writer's one way", last paragraph, and "Causes and places"): states, answers and lent room.
-use Prim.Native.Nat.{ℕ, _%_}
-use mathlib.Core.Bool.{Bool, _&&_, _||_}
+use Prim.Native.Nat.{ℕ}
+use mathlib.Core.Bool.{Bool, _&&_}
 use mathlib.Core.List.{List, [], _∷_, _++_}
 use lib.ListN.{length, take, drop}
 use lib.Dec.{eqb, ltb, leb}
@@ -13,10 +13,9 @@ use Rattle.cause.specs.declared.Cause.the-variants.{ContainerLength, RoomTooSma
 use Rattle.container.specs.Layout.{formatOf, msgStart}
 use Rattle.container.specs.Grants.{headerGrant}
 use Rattle.container.specs.declared.grant.Grant.{Grant}
-use Rattle.message.specs.Heads.{msgSize, wellHeaded}
 use Rattle.record.specs.Records.{recordsOf}
-use Rattle.reader.specs.Cells.{cells, carryAfter, endings}
-use Rattle.reader.specs.Checking.{containerChecks}
+use Rattle.placement.specs.Cells.{cells, carryAfter, endings, carryOk}
+use Rattle.placement.specs.Checking.{containerChecks}
 use Rattle.reader.specs.declared.reader.Reader.{Reader}
 use Rattle.reader.specs.declared.reader.Answer.{Answer}
 use Rattle.reader.specs.declared.reader.Answer.the-variants as answer
@@ -25,10 +24,6 @@ use Rattle.reader.specs.declared.reader.Judgement.{Judgement}
 use Rattle.reader.specs.declared.reader.Judgement.the-variants as judgement
 use Rattle.reader.specs.declared.reader.Judged.{Judged}
 use Rattle.reader.specs.declared.reader.Opened.{Opened}
-
--- a carry: empty, or the first 20k bytes (k at least 1, never all) of a well-headed longer message
-abbrev pub carryOk : List ℕ → Bool
-carryOk m = eqb (length m) 0 || (eqb (length m % 20) 0 && (ltb (length m) (msgSize m) && wellHeaded m))
 
 -- the bytes that a reader carries
 abbrev pub carried : Reader → List ℕ

@@ -15,8 +15,8 @@ use Rattle.container.specs.Grants.{noCounts}
 use Rattle.container.specs.declared.grant.Grant.{Grant}
 use Rattle.message.specs.Heads.{msgSize, miscBy, activation}
 use Rattle.message.specs.Places.{responses, responsesBy, miscs, miscsBy}
-use Rattle.reader.specs.Cells.{Cell, owed, cells}
-use Rattle.reader.specs.Checking.{populated, starting, activations, cellChecks, granuleChecks, containerChecks}
+use Rattle.placement.specs.Cells.{Cell, owed, cells}
+use Rattle.placement.specs.Checking.{populated, starting, activations, cellChecks, granuleChecks, containerChecks}
 use Rattle.reader.specs.declared.track.Track.{Track}
 use Rattle.reader.specs.declared.cell.Finding.{Finding}
 use Rattle.reader.specs.declared.cell.Finding.the-variants.{Fault, Mark}

@@ -8,8 +8,6 @@ ghost use Rattle.lists.specs.Parts.{zeros};
 ghost use Rattle.container.specs.Layout.{formatOf, wide, bit, granule};
 ghost use Rattle.reader.specs.Tracking.{cellFrom, finding, startMark};
 use cause::Cause;
-use container::byte_at;
-use container::is_zero;
 use container::locate_granule;
 use container::measure_granule;
 use container::starts_at;
@@ -20,6 +18,8 @@ use message::keeps_bytes;
 use message::keeps_grant;
 use message::look_up_size;
 use message::may_start;
+use slices::byte_at;
+use slices::is_zero;
 
 // What judging a granule finds: a fault, or the mark that its group and the header are judged by and the size of the message that starts, 0 for none.
 pub enum Finding {

@@ -4,9 +4,10 @@ ghost use mathlib.Core.Bool.{true};
 ghost use lib.ListN.{length};
 ghost use Rattle.cause.specs.Checks.{firstFault, Pass};
 ghost use Rattle.container.specs.Layout.{formatOf, msgStart};
-ghost use Rattle.reader.specs.Cells.{cells};
-ghost use Rattle.reader.specs.Checking.{granuleChecks};
-ghost use Rattle.reader.specs.Reading.{readerOk, carryOk, carried, entryChecks, opened, nextReader, reading, readRoom, judging};
+ghost use Rattle.placement.specs.Cells.{cells};
+ghost use Rattle.placement.specs.Checking.{granuleChecks};
+ghost use Rattle.reader.specs.Reading.{readerOk, carried, entryChecks, opened, nextReader, reading, readRoom, judging};
+ghost use Rattle.placement.specs.Cells.{carryOk};
 ghost use Rattle.reader.specs.Tracking.{trackOf, trackAt};
 use crate::gather::gather_carry;
 use crate::judge::judge_container;
@@ -15,11 +16,11 @@ use crate::track::Track;
 use cause::Cause;
 use cause::Verdict;
 use container::Grant;
-use container::is_zero;
 use container::read_grant;
 use container::read_starts;
 use message::is_well_headed;
 use message::measure_message;
+use slices::is_zero;
 
 // A format, and what was read of a message that goes on in the next container, with zeros behind.
 pub struct Reader {

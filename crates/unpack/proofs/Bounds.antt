@@ -26,7 +26,8 @@ use Rattle.record.specs.declared.list.First.{First}
 use Rattle.record.specs.declared.list.First.the-variants.{Whole}
 use Rattle.record.proofs.NumberLaws.{number-inside}
 use Rattle.record.proofs.RecordLaws.{first-splits, found}
-use Rattle.reader.specs.Reading.{carried, carryOk, readChecks, records, answerOf, reading}
+use Rattle.reader.specs.Reading.{carried, readChecks, records, answerOf, reading}
+use Rattle.placement.specs.Cells.{carryOk}
 use Rattle.reader.specs.declared.reader.Reader.{Reader}
 use Rattle.reader.specs.declared.reader.Step.{Step}
 use Rattle.reader.specs.declared.reader.Answer.the-variants as answer

@@ -8,7 +8,6 @@ ghost use Rattle.reader.specs.Reading.{reading};
 use cause::Cause;
 use cause::Verdict;
 use cause::number_cause;
-use container::move_front;
 use libc::STDOUT_FILENO;
 use reader::Answer;
 use reader::Reader;
@@ -17,6 +16,7 @@ use record::First;
 use record::Number;
 use record::read_number;
 use record::read_record;
+use slices::move_front;
 
 // As many containers as have an offset in 64 bits behind a number of at most five bytes.
 const MOST: u64 = 72057594037927935;

@@ -20,7 +20,7 @@ use Rattle.container.specs.Layout.{Format, start, granule, header, msgStart, bi
 use Rattle.container.specs.Grants.{headerGrant, reservedOk}
 use Rattle.container.specs.Lawful.{inGranule, howMany, Lawful}
 use Rattle.container.specs.declared.grant.Grant.{Grant}
-use Rattle.reader.specs.Cells.{Cell, after}
+use Rattle.placement.specs.Cells.{Cell, after}
 use Rattle.writer.specs.Laying.{startBits, formByte, headerBytes, setAll, layCells, containerOf}
 use Rattle.writer.proofs.Run.{Written, Shows}
 

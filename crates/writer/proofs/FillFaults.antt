@@ -37,8 +37,8 @@ use Rattle.writer.proofs.AnswerLaws.{filling-faulty, filling-sound}
 use Rattle.cause.proofs.NamedLaws.{turnOf}
 use Rattle.writer.proofs.FillCells.{ListCells, FillCells, long, broken}
 use Rattle.cause.proofs.FirstLaws.{Fails, Rises, rises-from, Sounds, First, None, Lists, listed-first, listed-none}
-use Rattle.reader.proofs.ContainerFaults.{ranked, tests-ranked, fails-as, guard-fails, fail-guard, and-fails, fail-left, fail-right, not-zero, zero-not}
-use Rattle.reader.proofs.ReadFaults.{Ranked, chain}
+use Rattle.cause.proofs.RankedLaws.{ranked, tests-ranked, fails-as, Ranked, chain}
+use Rattle.lists.proofs.FailLaws.{guard-fails, fail-guard, and-fails, fail-left, fail-right, not-zero, zero-not}
 
 -- ---- a broken record
 

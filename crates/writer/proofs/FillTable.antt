@@ -21,7 +21,7 @@ use Rattle.writer.proofs.ValidLaws.{writer-exactly}
 use Rattle.writer.specs.Faults.{Messages, ListFault, FillFault}
 use Rattle.cause.specs.Order.{rank, Named, None}
 use Rattle.writer.proofs.FillCells.{ListCells, FillCells}
-use Rattle.reader.proofs.ReadFaults.{Ranked, chain}
+use Rattle.cause.proofs.RankedLaws.{Ranked, chain}
 use Rattle.writer.proofs.FillFaults.{list-first, list-none, fill-first, fill-none}
 use Rattle.cause.proofs.NamedLaws.{Numbered, Same, first-named, none-named}
 

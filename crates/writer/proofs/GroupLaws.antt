@@ -12,8 +12,8 @@ use borrow.Author.Tests.{not-true, leb-true, le-leb}
 use Rattle.lists.proofs.Tests.{cases, never-both, and-left, and-right, and-assoc, and-false}
 use Rattle.cause.specs.Checks.{Pass}
 use Rattle.message.specs.Places.{miscs, responses}
-use Rattle.reader.specs.Cells.{Cell}
-use Rattle.reader.specs.Checking.{populated, nonePopulated, noGap, starting, sumOf, oneMisc, fourResponses, groupChecks}
+use Rattle.placement.specs.Cells.{Cell}
+use Rattle.placement.specs.Checking.{populated, nonePopulated, noGap, starting, sumOf, oneMisc, fourResponses, groupChecks}
 use Rattle.writer.specs.Plan.{groupOk}
 
 -- ---- cells that are not populated

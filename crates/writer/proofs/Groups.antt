@@ -19,8 +19,8 @@ use Rattle.message.specs.Places.{placed, miscs, responses}
 use Rattle.record.specs.Records.{firstOf, messageOf}
 use Rattle.record.specs.declared.list.First.{First}
 use Rattle.record.specs.declared.list.First.the-variants.{Empty, Bad, Whole}
-use Rattle.reader.specs.Cells.{Cell}
-use Rattle.reader.specs.Checking.{populated, noGap, sumOf, oneMisc, fourResponses, groupChecks}
+use Rattle.placement.specs.Cells.{Cell}
+use Rattle.placement.specs.Checking.{populated, noGap, sumOf, oneMisc, fourResponses, groupChecks}
 use Rattle.writer.specs.Plan.{emptyCell, startCell, onCell, groupOk, legal, beneath, Cursor, Given, nothing, startNext, give, groupAfter, cursorAfter, plan}
 use Rattle.writer.proofs.Simulation.{beneath-legal}
 use Rattle.writer.proofs.GroupLaws.{allPopulated, all-more, sum-more, gap-more, ok-both, group-checks}

@@ -22,8 +22,8 @@ use Rattle.message.specs.Places.{responses, responsesBy, miscs, miscsBy}
 use Rattle.record.specs.Records.{firstOf, messageOf}
 use Rattle.record.specs.declared.list.First.{First}
 use Rattle.record.specs.declared.list.First.the-variants.{Empty, Bad, Whole}
-use Rattle.reader.specs.Cells.{Cell}
-use Rattle.reader.specs.Checking.{populated, starting, sumOf}
+use Rattle.placement.specs.Cells.{Cell}
+use Rattle.placement.specs.Checking.{populated, starting, sumOf}
 use Rattle.writer.specs.Plan as planned
 use Rattle.writer.specs.Plan.{Given, emptyCell, startCell, onCell, legal, beneath, nothing, startNext, give, groupAfter, cursorAfter, plan, cursorLast, cursorOf}
 use Rattle.writer.specs.Laying.{startBits, headerBytes, setAll, layCells, containerOf, filled, owesAfter, usedOf}

@@ -17,8 +17,8 @@ use Rattle.container.proofs.Formats.{lawful-of}
 use Rattle.message.specs.Heads.{isMisc, activation}
 use Rattle.message.specs.Places.{placed}
 use Rattle.message.proofs.PlaceLaws.{placed-short}
-use Rattle.reader.specs.Cells.{Cell}
-use Rattle.reader.specs.Checking.{nonePopulated, groupChecks}
+use Rattle.placement.specs.Cells.{Cell}
+use Rattle.placement.specs.Checking.{nonePopulated, groupChecks}
 use Rattle.writer.specs.Plan.{startCell, groupOk, neverEarly, plan, cursorOf}
 use Rattle.writer.specs.OneWay.{groupAt, mayStart, mayLie, emptiesFrom, soFar, withStart, KeepsWith, KeepsBeneath}
 use Rattle.writer.proofs.PlanLaws.{plan-length}

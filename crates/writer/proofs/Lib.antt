@@ -4,9 +4,6 @@ pub mod Run
 pub mod GroupLaws
 pub mod Groups
 pub mod Container
-pub mod RoundTrip
-pub mod Return
-pub mod Bound
 pub mod OneWayLaws
 pub mod LegalLaws
 pub mod FillLaws

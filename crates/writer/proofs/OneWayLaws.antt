@@ -21,7 +21,7 @@ use Rattle.message.specs.Places.{placed}
 use Rattle.record.specs.Records.{firstOf, messageOf}
 use Rattle.record.specs.declared.list.First.{First}
 use Rattle.record.specs.declared.list.First.the-variants.{Empty, Bad, Whole}
-use Rattle.reader.specs.Cells.{Cell}
+use Rattle.placement.specs.Cells.{Cell}
 use Rattle.writer.specs.Plan.{emptyCell, startCell, onCell, Cursor, Given, nothing, startNext, give, groupAfter, cursorAfter, plan, cursorLast, cursorOf}
 use Rattle.writer.specs.Laying.{usedOf, owesAfter}
 use Rattle.writer.specs.OneWay.{cellOf, groupAt, mayStart, mayLie, NoneLegal, Empties, Way, goes-on, puts-beneath, passes-over, starts, stops, ends}

@@ -12,7 +12,7 @@ use Rattle.message.specs.Kinds.{pays}
 use Rattle.message.specs.Places.{placed}
 use Rattle.message.proofs.HeadLaws.{Message}
 use Rattle.message.proofs.KindLaws.{pays-apart}
-use Rattle.writer.specs.Calls.{SameMessages}
+use Rattle.writer.specs.SameMessages.{SameMessages}
 
 -- classes of messages such that what is placed in a smaller granule and a longer message have none in common
 abbrev pub Apart : Format → (ℕ → List ℕ → Bool) → Type 0

@@ -10,7 +10,7 @@ use Rattle.lists.specs.Pick.{pick}
 use Rattle.lists.specs.Parts.{put}
 use Rattle.container.specs.Layout.{Format, start}
 use Rattle.container.specs.declared.grant.Grant.{Grant}
-use Rattle.reader.specs.Cells.{Cell}
+use Rattle.placement.specs.Cells.{Cell}
 use Rattle.writer.specs.Plan.{Cursor, give, cursorAfter, plan, cursorLast}
 use Rattle.writer.specs.Laying.{startBits, layCells}
 

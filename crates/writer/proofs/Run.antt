@@ -10,8 +10,8 @@ use lib.Dec.{ltb}
 use Rattle.cause.specs.Checks.{Pass}
 use Rattle.container.specs.Layout.{Format, wide, granule, bit, msgStart}
 use Rattle.container.specs.declared.grant.Grant.{Grant}
-use Rattle.reader.specs.Cells.{Cell, owed, cellAt, after, ended, cells, carryAfter, endings}
-use Rattle.reader.specs.Checking.{cellChecks}
+use Rattle.placement.specs.Cells.{Cell, owed, cellAt, after, ended, cells, carryAfter, endings}
+use Rattle.placement.specs.Checking.{cellChecks}
 use Rattle.writer.specs.Plan.{Cursor, Given, give, cursorAfter, plan, cursorLast}
 use Rattle.writer.proofs.OtherOrder.{OtherOrder, unchanged, other-order-on, other-order-through}
 use Rattle.writer.proofs.Simulation.{Link, begun, Left, Steps, step-followed}

@@ -26,8 +26,8 @@ use Rattle.record.specs.Number.{number}
 use Rattle.record.specs.Records.{recordOf, recordsOf, AllMessages, firstOf, messageOf}
 use Rattle.record.specs.declared.list.First.the-variants.{Empty, Whole}
 use Rattle.record.proofs.RecordLaws.{first-written, message-some}
-use Rattle.reader.specs.Cells.{Cell, owed, whole, after, ended}
-use Rattle.reader.specs.Checking.{startsAlone, startKnown, startPlaced, startHeaded, restZero, cellChecks}
+use Rattle.placement.specs.Cells.{Cell, owed, whole, after, ended}
+use Rattle.placement.specs.Checking.{startsAlone, startKnown, startPlaced, startHeaded, restZero, cellChecks}
 use Rattle.writer.specs.Plan.{emptyCell, startCell, onCell, groupOk, legal, neverEarly, beneath, Cursor, Given, nothing, give}
 use Rattle.writer.proofs.OtherOrder.{OtherOrder, unchanged}
 

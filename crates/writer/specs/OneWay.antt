@@ -14,8 +14,8 @@ use Rattle.message.specs.Heads.{typeOf, isMisc, resp, miscU, activation}
 use Rattle.message.specs.Places.{placed}
 use Rattle.record.specs.Records.{firstOf, messageOf}
 use Rattle.record.specs.declared.list.First.the-variants.{Whole}
-use Rattle.reader.specs.Cells.{Cell}
-use Rattle.reader.specs.Checking.{groupChecks}
+use Rattle.placement.specs.Cells.{Cell}
+use Rattle.placement.specs.Checking.{groupChecks}
 use Rattle.writer.specs.Plan.{emptyCell, startCell, onCell, legal, beneath}
 
 -- cell j of the cells of a container

@@ -15,8 +15,8 @@ use Rattle.message.specs.Places.{placed}
 use Rattle.record.specs.Records.{firstOf, messageOf}
 use Rattle.record.specs.declared.list.First.{First}
 use Rattle.record.specs.declared.list.First.the-variants.{Empty, Bad, Whole}
-use Rattle.reader.specs.Cells.{Cell}
-use Rattle.reader.specs.Checking.{noGap, oneMisc, fourResponses}
+use Rattle.placement.specs.Cells.{Cell}
+use Rattle.placement.specs.Checking.{noGap, oneMisc, fourResponses}
 
 -- a cell of n bytes that stays empty, that a message starts in, that a message goes on in
 abbrev pub emptyCell : ℕ → Cell

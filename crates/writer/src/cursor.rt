@@ -15,12 +15,12 @@ use crate::fill::clear_container;
 use crate::fill::fill_granule;
 use crate::group::Group;
 use container::Grant;
-use container::byte_at;
 use container::measure_granule;
 use message::count_miscs;
 use message::count_responses;
 use record::First;
 use record::read_record;
+use slices::byte_at;
 
 // What is owed is `left` bytes from `from` on, of the old tail or of the list; `at` bytes of the list are used, and `starts` is
 // MsgStart so far.

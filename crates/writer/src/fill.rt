@@ -6,10 +6,10 @@ ghost use Rattle.lists.specs.Parts.{put, pad};
 ghost use Rattle.container.specs.Layout.{formatOf, start};
 ghost use Rattle.writer.specs.Laying.{headerBytes, setAll};
 use container::Grant;
-use container::byte_at;
 use container::locate_granule;
 use container::locate_header;
 use container::measure_granule;
+use slices::byte_at;
 
 // Copies src to the front of a part and writes zeros behind it, `size` bytes in all.
 fn copy_and_zero(part: &mut [u8], src: &[u8], size: usize)

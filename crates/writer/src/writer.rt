@@ -17,8 +17,8 @@ use cause::Cause;
 use cause::Verdict;
 use container::Grant;
 use container::allows_plane;
-use container::is_zero;
 use record::check_list;
+use slices::is_zero;
 
 // A format, and the tail that is owed of a message begun before, with zeros behind.
 pub struct Writer {

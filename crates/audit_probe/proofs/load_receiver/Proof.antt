@@ -5,8 +5,8 @@ use native.Mathlib.Omega.{arith}
 use lib.ListN.{getD, replicate}
 use borrow.Author.Needs.{needs}
 use Rattle.lists.proofs.Fill.{grown, grown-more, grown-all}
-use Rattle.ledger.specs.Audit.{row}
-use Rattle.ledger.proofs.RowLaws.{row-at, length-row}
+use Rattle.pools.specs.Rows.{row}
+use Rattle.pools.proofs.RowLaws.{row-at, length-row}
 use Rattle.audit_probe.proofs.load_receiver.Statement.{statement}
 use Rattle.audit_probe.proofs.load_receiver.Tie as tie
 

@@ -5,7 +5,8 @@ use native.Mathlib.Omega.{arith}
 use borrow.Author.Needs.{needs}
 use lib.ListN.{length}
 use Rattle.writer.proofs.TailLaws.{Kept, kept-none, kept-more, kept-all}
-use Rattle.probe.proofs.FillLaws.{same-le, pad-whole}
+use Rattle.lists.proofs.PartLaws.{pad-whole}
+use Rattle.probe.proofs.FillLaws.{same-le}
 use Rattle.probe.proofs.load_tail.Statement.{statement}
 use Rattle.probe.proofs.load_tail.Tie as tie
 

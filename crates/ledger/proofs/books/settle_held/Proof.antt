@@ -3,7 +3,7 @@ use Prim.Native.Nat.{_-_, _≤_}
 use mathlib.Core.Path.{_≡_, _∙_}
 use native.Mathlib.Omega.{arith}
 use Rattle.ledger.proofs.BookLaws.{settledTo, settled-more, settled-all}
-use Rattle.ledger.proofs.TableLaws.{rows-of}
+use Rattle.pools.proofs.TableLaws.{rows-of}
 use Rattle.ledger.proofs.books.settle_held.Statement.{statement}
 use Rattle.ledger.proofs.books.settle_held.Tie as tie
 

@@ -3,7 +3,7 @@ use mathlib.Core.Path.{_≡_}
 use lib.ListN.{length}
 use borrow.Author.Needs.{needs}
 use Rattle.ledger.proofs.BookLaws.{opened-set}
-use Rattle.ledger.proofs.TableLaws.{rows-of}
+use Rattle.pools.proofs.TableLaws.{rows-of}
 use Rattle.ledger.proofs.books.settle_opened.Statement.{statement}
 use Rattle.ledger.proofs.books.settle_opened.Tie as tie
 

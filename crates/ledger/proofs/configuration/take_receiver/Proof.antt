@@ -1,5 +1,12 @@
 -- `ledger::configuration::take_receiver` meets its contract.
+use Prim.Native.Nat.{ℕ, _+_}
+use mathlib.Core.Path.{_≡_, _∙_}
+use mathlib.Core.List.{List}
+use native.Mathlib.Omega.{arith}
+use lib.ListN.{length}
 use borrow.Author.Needs.{needs}
+use Rattle.lists.specs.Parts.{part}
+use Rattle.lists.proofs.PartLaws.{pad-whole, length-part}
 use Rattle.ledger.proofs.configuration.take_receiver.Statement.{statement}
 use Rattle.ledger.proofs.configuration.take_receiver.Tie as tie
 
@@ -28,7 +35,12 @@ array-read-t15 : tie.Need-array-read-t15
 array-read-t15 c = search needs
 
 returns : tie.Need-returns
-returns c = rw (c .take-row .ensures)
+returns c =
+    let s = c .before .before in
+    let l : List ℕ = s .args .t1 in
+    let at : ℕ = s .args .start + 2 in
+    let long : length l ≡ 33 = s .good .0 .1 .0 .1 in
+    rw (c .take-row .ensures ∙ pad-whole 14 (part at 14 l) (length-part at 14 l (omega arith)))
 
 pub take-receiver-spec : {M : Type 1} → statement M
 take-receiver-spec =

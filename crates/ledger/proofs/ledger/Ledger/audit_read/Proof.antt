@@ -1,5 +1,5 @@
 -- `ledger::ledger::Ledger::audit_read` meets its contract.
-use Rattle.ledger.proofs.AuditLaws.{next-short, begun-refused, granted-refused, audit-settles, grant-plane}
+use Rattle.ledger.proofs.AuditLaws.{next-short, begun-refused, granted-refused, audit-settles}
 use borrow.Author.Needs.{needs}
 use Rattle.ledger.proofs.ledger.Ledger.audit_read.Statement.{statement}
 use Rattle.ledger.proofs.ledger.Ledger.audit_read.Tie as tie
@@ -31,9 +31,7 @@ choose-receiver-requires-2 : tie.Need-choose-receiver-requires-2
 choose-receiver-requires-2 c κs = search needs
 
 tally-granted-requires : tie.Need-tally-granted-requires
-tally-granted-requires c κs =
-    let start = c .before .before .before .before .before .before in
-    (start .pre .0 .2, grant-plane (start .args .self .format) (start .args .container .now) (start .pre .1 .1 .1 .0))
+tally-granted-requires c κs = search needs
 
 enum-known-second : tie.Need-enum-known-second
 enum-known-second c = search needs

@@ -1,0 +1,3 @@
+pub mod Keeps
+pub mod ProgressLaws
+pub mod KeepsLaws

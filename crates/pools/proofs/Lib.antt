@@ -1,0 +1,13 @@
+pub mod RowLaws
+pub mod TableLaws
+pub mod PoolLoops
+pub mod ReceiverCases
+pub mod PassLaws
+pub mod TallyLaws
+pub mod TypeLaws
+pub mod PoolRuleLaws
+pub mod PaymentRuleLaws
+pub mod GrantRuleLaws
+pub mod BegunLaws
+pub mod GrantedLaws
+pub mod EntryLaws

@@ -1,0 +1,62 @@
+-- `pools::begun::charge_granule` meets its contract.
+use Rattle.pools.proofs.BegunLaws.{charge-refused, charge-added}
+use borrow.Author.Needs.{needs}
+use Rattle.pools.proofs.begun.charge_granule.Statement.{statement}
+use Rattle.pools.proofs.begun.charge_granule.Tie as tie
+
+read-start-requires : tie.Need-read-start-requires
+read-start-requires c κs = search needs
+
+locate-granule-requires : tie.Need-locate-granule-requires
+locate-granule-requires c κs = search needs
+
+add-second : tie.Need-add-second
+add-second c = search needs
+
+shared-slice-read-second : tie.Need-shared-slice-read-second
+shared-slice-read-second c = search needs
+
+judge-payment-requires : tie.Need-judge-payment-requires
+judge-payment-requires c κs = search needs
+
+enum-told : tie.Need-enum-told
+enum-told c = search needs
+
+returns : tie.Need-returns
+returns c =
+    let judged = c .before .before in
+    let located = judged .before .before in
+    let s = located .before .before .before .before in
+    charge-refused (s .args .receiver) (s .args .container .now) (s .args .starts) (s .args .g) (s .args .counts .now) (located .before .read-start .ensures) (located .locate-granule .ensures) (judged .judge-payment .ensures) (c .enum-told .given .1)
+
+enum-told-2 : tie.Need-enum-told-2
+enum-told-2 c = search needs
+
+add-charges-requires : tie.Need-add-charges-requires
+add-charges-requires c κs = search needs
+
+same-length : tie.Need-same-length
+same-length c = search needs
+
+returns-2 : tie.Need-returns-2
+returns-2 c =
+    let judged = c .before .before .before .before .before .before in
+    let located = judged .before .before in
+    let s = located .before .before .before .before in
+    charge-added (s .args .receiver) (s .args .container .now) (s .args .starts) (s .args .g) (s .args .counts .now) (located .before .read-start .ensures) (located .locate-granule .ensures) (judged .judge-payment .ensures) (c .before .before .add-charges .ensures)
+
+pub charge-granule-spec : {M : Type 1} → statement M
+charge-granule-spec =
+    tie.close
+    (tie.spec
+    read-start-requires
+    locate-granule-requires
+    add-second
+    shared-slice-read-second
+    judge-payment-requires
+    enum-told
+    returns
+    enum-told-2
+    add-charges-requires
+    same-length
+    returns-2)

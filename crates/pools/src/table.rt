@@ -1,0 +1,50 @@
+// A table of two directions by fourteen pools: nested in locals and arguments, flat in the state.
+ghost use mathlib.Core.Path.{_≡_};
+ghost use Prim.Native.Nat.{_+_};
+ghost use lib.ListN.{getD};
+ghost use Rattle.lists.specs.Parts.{part, pad};
+ghost use Rattle.pools.specs.Rows.{nested, flattened};
+
+// Number i from `start` on, 0 behind the end of the list.
+fn number_at(list: &[u32], start: usize, i: usize) -> u32
+    ensures { λ r. ⌜ r ≡ getD (now (list .entry)) (start + i) 0 ⌝ }
+{
+    if list.len() <= start {
+        return 0;
+    }
+    if list.len() - start <= i {
+        return 0;
+    }
+    list[start + i]
+}
+
+// Fourteen numbers of a list, from `start` on, with zeros behind its end.
+pub fn take_row(list: &[u32], start: usize) -> [u32; 14]
+    ensures { λ r. ⌜ r ≡ pad 14 (part start 14 (now (list .entry))) ⌝ }
+{
+    let mut out = [0u32; 14];
+    for i in 0..14 {
+        out[i] = number_at(list, start, i);
+    }
+    out
+}
+
+// The two rows of a flat table.
+pub fn nest(flat: [u32; 28]) -> [[u32; 14]; 2]
+    ensures { λ r. ⌜ r ≡ nested flat ⌝ }
+{
+    let first = take_row(&flat, 0);
+    let second = take_row(&flat, 14);
+    [first, second]
+}
+
+// Two rows as a flat table.
+pub fn flatten(rows: [[u32; 14]; 2]) -> [u32; 28]
+    ensures { λ r. ⌜ r ≡ flattened rows ⌝ }
+{
+    let mut out = [0u32; 28];
+    for i in 0..28 {
+        out[i] = rows[i / 14][i % 14];
+    }
+    out
+}

@@ -1,0 +1,3 @@
+pub mod RoundTrip
+pub mod Return
+pub mod Bound

@@ -1,0 +1,1 @@
+// Sequences of fills and readings, and the return of the messages (demand 2); no code.
