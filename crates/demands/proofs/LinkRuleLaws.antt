@@ -28,7 +28,7 @@ use Rattle.placement.specs.Rules.{Rules, Starts, startBit}
 use Rattle.reader.specs.ValidState.{ValidState}
 use Rattle.reader.specs.declared.reader.Reader.{Reader}
 use Rattle.placement.proofs.KeepsLaws.{passes-keeps, keeps-passes}
-use Rattle.reader.proofs.RulesLaws.{rules-exactly}
+use Rattle.placement.proofs.RulesLaws.{rules-exactly}
 use Rattle.reader.proofs.ReadRules.{carry-exactly}
 use Rattle.pools.specs.Pools.{messageChecks, grantChecks, allMessages, allGrants, grantsIn}
 use Rattle.pools.specs.PoolRules.{PaysRight, GrantsRight, KeepsPools, grantIn}

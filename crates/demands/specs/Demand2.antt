@@ -15,7 +15,7 @@ use Rattle.message.specs.Kinds.{PaysAsCharged}
 use Rattle.record.specs.Records.{recordsOf, AllMessages}
 use Rattle.placement.specs.Cells.{Cell}
 use Rattle.placement.specs.Rules.{Rules}
-use Rattle.reader.specs.Completion.{CarryEnds}
+use Rattle.placement.specs.Completion.{CarryEnds}
 use Rattle.reader.specs.ValidState.{ValidState, HandsOut}
 use Rattle.reader.specs.Reading.{readerOk, carried, records, reading}
 use Rattle.reader.specs.declared.reader.Reader.{Reader}

@@ -31,7 +31,7 @@ use Rattle.cause.proofs.NamedLaws.{turnOf, NumberedBy, Clean, Same, first-named
 use Rattle.ledger.proofs.EntryFaults.{AuditCells}
 use Rattle.cause.proofs.RankedLaws.{chain}
 use Rattle.ledger.proofs.AuditFaults.{Turned, audit-first, audit-none}
-use Rattle.reader.proofs.ContainerTable.{cells-late, rows-late, Before, row-of, of-row, starts-in, starts-cell}
+use Rattle.placement.proofs.ContainerTable.{cells-late, rows-late, Before, row-of, of-row, starts-in, starts-cell}
 
 module _ (s : Ledger) (d : ℕ) (c : List ℕ) where
   abbrev fm : Format

@@ -18,8 +18,8 @@ use Rattle.pools.specs.PoolRules.{grantIn, capacityOf}
 use Rattle.pools.specs.Pools.{paidTo, grantedTo}
 use Rattle.ledger.specs.Audit.{receiverOf, readerOf, heldOf, openOf, ledgerOk, opposite, begun, granted}
 use Rattle.ledger.specs.declared.ledger.Ledger.{Ledger}
-use Rattle.ledger.specs.Faults.{PaymentFault, GrantFault}
-use Rattle.reader.proofs.CellFaults.{CellFault}
+use Rattle.pools.specs.Faults.{PaymentFault, GrantFault}
+use Rattle.placement.proofs.CellFaults.{CellFault}
 
 -- granule g of an entry, as it is read
 abbrev pub entryCell : Ledger → ℕ → List ℕ → ℕ → Cell

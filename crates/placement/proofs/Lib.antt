@@ -1,3 +1,11 @@
 pub mod Keeps
 pub mod ProgressLaws
 pub mod KeepsLaws
+pub mod FirmLaws
+pub mod OccupyLaws
+pub mod RulesLaws
+pub mod CompletionLaws
+pub mod NextEnds
+pub mod CellFaults
+pub mod ContainerFaults
+pub mod ContainerTable

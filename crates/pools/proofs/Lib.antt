@@ -11,3 +11,4 @@ pub mod GrantRuleLaws
 pub mod BegunLaws
 pub mod GrantedLaws
 pub mod EntryLaws
+pub mod PoolFaults

@@ -17,13 +17,7 @@ pub mod RecordsLaws
 pub mod EndingCases
 pub mod WriteLaws
 pub mod NextLaws
-pub mod NextEnds
-pub mod OccupyLaws
-pub mod RulesLaws
-pub mod CompletionLaws
 pub mod ReadRules
 pub mod CellFaults
-pub mod ContainerFaults
 pub mod ReadFaults
-pub mod ContainerTable
 pub mod ReadTable

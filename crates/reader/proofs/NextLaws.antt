@@ -26,7 +26,8 @@ use Rattle.reader.specs.declared.track.Track.{Track}
 use Rattle.reader.specs.declared.scan.Scan.{Scan}
 use Rattle.reader.proofs.CarryLaws.{reader-ok, carry-valid, granules-pass}
 use Rattle.placement.proofs.ProgressLaws.{carry-of}
-use Rattle.reader.proofs.TrackLaws.{Follows, follows, firm, carry-firm, gathered-progress}
+use Rattle.reader.proofs.TrackLaws.{Follows, follows, firm, gathered-progress}
+use Rattle.placement.proofs.FirmLaws.{carry-firm}
 
 -- the carry of a reader as the code takes it
 pub carry-part : (s : Reader) → take (s .len - 0) (drop 0 (s .carry)) ≡ carried s

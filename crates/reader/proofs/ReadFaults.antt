@@ -22,7 +22,7 @@ use Rattle.cause.proofs.NamedLaws.{turnOf}
 use Rattle.reader.proofs.CellFaults.{ReadCells}
 use Rattle.cause.proofs.FirstLaws.{Fails, First, None, Lists, rises-from, listed-first, listed-none}
 use Rattle.cause.proofs.RankedLaws.{ranked, tests-ranked, fails-as, Ranked, chain}
-use Rattle.reader.proofs.ContainerFaults.{containerSites, container-complete, container-rises, container-sound}
+use Rattle.placement.proofs.ContainerFaults.{containerSites, container-complete, container-rises, container-sound}
 
 module _ (s : Reader) (c : List ℕ) where
   abbrev fm : Format

@@ -23,7 +23,7 @@ use Rattle.placement.specs.Cells.{cells, carryAfter, carryOk}
 use Rattle.placement.proofs.Keeps.{Keeps, endedTo}
 use Rattle.reader.specs.Reading.{carried, readerOk, records, nextReader, reading, readRoom, judging}
 use Rattle.placement.specs.Rules.{Rules}
-use Rattle.reader.specs.Completion.{CarryEnds}
+use Rattle.placement.specs.Completion.{CarryEnds}
 use Rattle.reader.specs.ValidState.{Part, ValidState, HandsOut}
 use Rattle.reader.specs.declared.reader.Reader.{Reader}
 use Rattle.reader.specs.declared.reader.Answer.the-variants as answer
@@ -31,9 +31,9 @@ use Rattle.reader.specs.declared.reader.Judgement.the-variants as judgem
 use Rattle.placement.proofs.ProgressLaws.{endings-of}
 use Rattle.reader.proofs.CarryLaws.{Half, Valid, valid-ok, ok-valid, reader-ok}
 use Rattle.reader.proofs.ReadLaws.{read-sound-exactly, read-exactly, judge-exactly}
-use Rattle.reader.proofs.RulesLaws.{rules-exactly, keeps-followed}
-use Rattle.reader.proofs.CompletionLaws.{in-order, carries-on}
-use Rattle.reader.proofs.NextEnds.{carry-ends}
+use Rattle.placement.proofs.RulesLaws.{rules-exactly, keeps-followed}
+use Rattle.placement.proofs.CompletionLaws.{in-order, carries-on}
+use Rattle.placement.proofs.NextEnds.{carry-ends}
 
 -- ---- a valid state
 pub carry-exactly : (m : List ℕ) → (carryOk m ≡ true) ↔ ((m ≡ []) ⊎ Part m)

@@ -29,7 +29,7 @@ use Rattle.cause.proofs.NamedLaws.{turnOf, Numbered, Clean, Same, first-named, 
 use Rattle.reader.proofs.CellFaults.{ReadCells}
 use Rattle.cause.proofs.RankedLaws.{Ranked, chain}
 use Rattle.reader.proofs.ReadFaults.{read-first, read-none, judge-first, judge-none}
-use Rattle.reader.proofs.ContainerTable.{cells-late, rows-late, Before, row-of, of-row}
+use Rattle.placement.proofs.ContainerTable.{cells-late, rows-late, Before, row-of, of-row}
 
 module _ (s : Reader) (c : List ℕ) (n : ℕ) where
   abbrev fm : Format

@@ -12,13 +12,13 @@ use lib.Dec.{eqb, ltb, leb}
 use borrow.Author.Tests.{lt-ltb, ltb-true, le-leb, lt-leb, leb-true, leb-false, eqb-true, eqb-false}
 use Rattle.lists.specs.Pick.{pick}
 use Rattle.lists.proofs.Tests.{cases, and-left, and-right}
-use Rattle.lists.proofs.PartLaws.{length-zero}
 use Rattle.container.specs.Layout.{Format, formatOf, wide, granule, msgStart, bit}
 use Rattle.container.proofs.Formats.{granule-length}
-use Rattle.message.specs.Heads.{typeOf, opOf, msgSize, wellHeaded}
+use Rattle.message.specs.Heads.{typeOf, opOf, msgSize}
 use Rattle.message.proofs.HeadLaws.{size-append, size-of, size-most}
 use Rattle.placement.specs.Cells.{Cell, owed, cellAt, whole, after, ended, carryOk}
 use Rattle.placement.proofs.Keeps.{progress}
+use Rattle.placement.proofs.FirmLaws.{Firm, carry-firm, firm-left}
 use Rattle.reader.specs.Tracking.{noTrack, trackOf, trackAfter, trackAt, gathered, gatheredMessage, inProgress, endedBy, Ending, Begun}
 use Rattle.reader.specs.declared.track.Track.{Track}
 
@@ -232,39 +232,6 @@ module _ (f : ℕ) (c m : List ℕ) (n : length c ≡ 256) (begun : Begun m) whe
       subst (λ (k : ℕ). Follows (formatOf f) c m k (trackAfter (formatOf f) c (msgStart (formatOf f) c) g (trackAt (formatOf f) c (msgStart (formatOf f) c) (trackOf m) g)) (after (formatOf f) g (cellAt (formatOf f) g c (progress (formatOf f) c m g)) (progress (formatOf f) c m g)))
       (add-one g)
       (follows-step f c m g (trackAt (formatOf f) c (msgStart (formatOf f) c) (trackOf m) g) (progress (formatOf f) c m g) b n (follows g (omega arith)))
-
--- what was read of a message in progress: nothing where nothing is owed, and whole granules
-pub record Firm (p : List ℕ) : Type 0 where
-  pub idle : owed p ≡ 0 → p ≡ []
-  pub granular : length p % 20 ≡ 0
-  pub begun : 0 < owed p → 20 ≤ length p
-
-firm-none : Firm []
-firm-none = record { idle = λ _. refl; granular = refl; begun = λ h. absurd (omega arith) }
-
--- a valid carry is firm
-pub carry-firm : (m : List ℕ) → carryOk m ≡ true → Firm m
-carry-firm m e = ⊎-elim none some (cases (eqb (length m) 0))
-  where
-    least : (k : ℕ) → (k ≡ 0 → ⊥) → k % 20 ≡ 0 → 20 ≤ k
-    least k d r = omega arith
-
-    none : eqb (length m) 0 ≡ true → Firm m
-    none z = rw (length-zero m (eqb-true (length m) 0 z)) firm-none
-
-    some : eqb (length m) 0 ≡ false → Firm m
-    some z =
-        let k : (eqb (length m % 20) 0 && (ltb (length m) (msgSize m) && wellHeaded m)) ≡ true = rw z at e in
-        let r : length m % 20 ≡ 0 = eqb-true (length m % 20) 0 (and-left (eqb (length m % 20) 0) (ltb (length m) (msgSize m) && wellHeaded m) k) in
-        let s : length m < msgSize m = ltb-true (length m) (msgSize m) (and-left (ltb (length m) (msgSize m)) (wellHeaded m) (and-right (eqb (length m % 20) 0) (ltb (length m) (msgSize m) && wellHeaded m) k)) in
-        let d = eqb-false (length m) 0 z in
-        record { idle = λ (q : owed m ≡ 0). absurd (omega arith); granular = r; begun = λ _. least (length m) d r }
-
-firm-left : (x : List ℕ) → length x % 20 ≡ 0 → 20 ≤ length x → Firm (pick (whole x) [] x)
-firm-left x r l =
-    ⊎-elim (λ (t : whole x ≡ true). rw t firm-none)
-    (λ (t : whole x ≡ false). rw t (let k = leb-false (msgSize x) (length x) t in record { idle = λ (q : owed x ≡ 0). absurd (omega arith); granular = r; begun = λ _. l }))
-    (cases (whole x))
 
 module _ (f : ℕ) (c : List ℕ) (n : length c ≡ 256) where
   firm-step : (g : ℕ) (p : List ℕ) → g < 12 → Firm p → Firm (after (formatOf f) g (cellAt (formatOf f) g c p) p)

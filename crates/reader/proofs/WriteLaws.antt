@@ -16,7 +16,8 @@ use Rattle.placement.proofs.Keeps.{progress, cellOf, endedTo}
 use Rattle.reader.specs.Tracking.{trackOf, trackAfter, trackAt, endedBy, Ending}
 use Rattle.reader.specs.declared.track.Track.{Track}
 use Rattle.placement.proofs.ProgressLaws.{endings-of}
-use Rattle.reader.proofs.TrackLaws.{Follows, follows, ended-by, ending-sized, carry-firm, firm}
+use Rattle.reader.proofs.TrackLaws.{Follows, follows, ended-by, ending-sized, firm}
+use Rattle.placement.proofs.FirmLaws.{carry-firm}
 use Rattle.reader.proofs.CarryLaws.{ended-room}
 use Rattle.reader.proofs.CopyLaws.{put-none, put-more}
 use Rattle.record.proofs.RecordLaws.{records-append}

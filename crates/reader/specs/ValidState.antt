@@ -8,7 +8,7 @@ use Rattle.container.specs.Layout.{formatOf}
 use Rattle.message.specs.HeadRules.{byte, Bytes, RightHead}
 use Rattle.record.specs.Records.{recordsOf}
 use Rattle.reader.specs.Reading.{carried, readerWith, records, reading, readRoom}
-use Rattle.reader.specs.Completion.{InOrder, CarriesOn}
+use Rattle.placement.specs.Completion.{InOrder, CarriesOn}
 use Rattle.reader.specs.declared.reader.Reader.{Reader}
 
 -- "the first 20k bytes (k at least 1, never all) of a well-headed longer message"

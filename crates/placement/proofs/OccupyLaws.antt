@@ -20,12 +20,12 @@ use Rattle.message.specs.Places.{placed}
 use Rattle.message.proofs.HeadLaws.{size-append, size-of}
 use Rattle.message.proofs.HeadRuleLaws.{bytes-size, bytes-some, size-bytes}
 use Rattle.message.proofs.PlaceLaws.{placed-fits}
 use Rattle.placement.specs.Cells.{owed, cellAt, whole, after, carryOk}
 use Rattle.placement.proofs.Keeps.{progress, cellOf, KeepsGranule}
 use Rattle.placement.specs.Rules.{startBit, Starts, Origin, There, front, next, full, before, GoesOn}
 use Rattle.placement.specs.Rules.Origin.{carry, at}
-use Rattle.reader.specs.Completion.{gather, soFar}
-use Rattle.reader.proofs.TrackLaws.{carry-firm}
+use Rattle.placement.specs.Completion.{gather, soFar}
+use Rattle.placement.proofs.FirmLaws.{carry-firm}
 
 -- ---- the granules of 20 bytes
 module _ (fm : Format) (s : ℕ) where

@@ -18,14 +18,14 @@ use Rattle.message.specs.Heads.{msgSize}
 use Rattle.message.specs.HeadRules.{Bytes}
 use Rattle.message.proofs.HeadLaws.{size-append}
 use Rattle.message.proofs.HeadRuleLaws.{bytes-size, bytes-some, size-bytes}
 use Rattle.placement.specs.Cells.{owed, cellAt, whole, ended, cells, carryAfter, carryOk}
 use Rattle.placement.proofs.Keeps.{progress, cellOf, endedTo, KeepsGranule}
 use Rattle.placement.specs.Rules.{startBit, Origin, There, front, next, full, before, GoesOn}
 use Rattle.placement.specs.Rules.Origin.{carry, at}
-use Rattle.reader.specs.Completion.{soFar, Ended, Completes, In, Rising, bytesOf, InOrder, CarriesOn}
+use Rattle.placement.specs.Completion.{soFar, Ended, Completes, In, Rising, bytesOf, InOrder, CarriesOn}
 use Rattle.placement.proofs.ProgressLaws.{carry-of}
-use Rattle.reader.proofs.TrackLaws.{carry-firm}
-use Rattle.reader.proofs.OccupyLaws.{full-none, granule-sized, Under, Follow, on-goes, goes-on, far-owed, far-wide, before-wide, before-narrow, front-long}
+use Rattle.placement.proofs.FirmLaws.{carry-firm}
+use Rattle.placement.proofs.OccupyLaws.{full-none, granule-sized, Under, Follow, on-goes, goes-on, far-owed, far-wide, before-wide, before-narrow, front-long}
 
 -- ---- lists of messages
 in-left : (e : Ended) (a b : List Ended) → In e a → In e (a ++ b)

@@ -21,12 +21,12 @@ use Rattle.container.specs.Grants.{headerGrant, planeAllowed, noCounts, reserve
 use Rattle.container.specs.declared.grant.Grant.{Grant}
 use Rattle.message.specs.Heads.{typeOf, opOf, msgSize, known, wellHeaded, miscU, activation}
 use Rattle.message.specs.Places.{placed, miscs, responses}
 use Rattle.placement.specs.Cells.{Cell, cells}
 use Rattle.placement.specs.Checking.{used, cellChecks, granuleChecks, populated, noGap, starting, sumOf, oneMisc, fourResponses, groupChecks, headerChecks, activations, quiet, activationChecks, containerChecks}
 use Rattle.placement.proofs.Keeps.{progress, cellOf}
 use Rattle.placement.proofs.ProgressLaws.{listFrom, cells-of}
 use Rattle.cause.proofs.NamedLaws.{turnOf}
-use Rattle.reader.proofs.CellFaults.{Filled, StartsMisc, StartsActivation, started, CellFault, reserved, form, inside, unknown, place, head, unused, gap, second, many, beside}
+use Rattle.placement.proofs.CellFaults.{Filled, StartsMisc, StartsActivation, started, CellFault, reserved, form, inside, unknown, place, head, unused, gap, second, many, beside}
 use Rattle.cause.proofs.FirstLaws.{Site, Fails, fails-front, fails-back, Rises, rises-append, rises-from, rises-to, Sounds, sounds-append}
 use Rattle.cause.proofs.RankedLaws.{ranked, ranked-append, fails-as}
 use Rattle.lists.proofs.FailLaws.{guard-fails, fail-guard, and-fails, fail-left, fail-right, or-fails, not-zero, zero-not}

@@ -11,11 +11,11 @@ use Rattle.container.specs.Lawful.{Lawful}
 use Rattle.message.specs.HeadRules.{Bytes}
 use Rattle.message.proofs.HeadLaws.{size-most}
 use Rattle.message.proofs.HeadRuleLaws.{bytes-size}
 use Rattle.placement.specs.Cells.{carryOk}
 use Rattle.placement.specs.Rules.{full}
-use Rattle.reader.specs.Completion.{CarryEnds}
-use Rattle.reader.proofs.OccupyLaws.{full-in}
-use Rattle.reader.proofs.CompletionLaws.{carry-last}
+use Rattle.placement.specs.Completion.{CarryEnds}
+use Rattle.placement.proofs.OccupyLaws.{full-in}
+use Rattle.placement.proofs.CompletionLaws.{carry-last}
 
 -- G0 to G4 have 20 bytes
 first-full : (fm : Format) → Lawful fm → (g : ℕ) → g ≤ 5 → length (full fm 0 g) ≡ g

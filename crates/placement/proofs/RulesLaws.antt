@@ -17,11 +17,11 @@ use Rattle.message.specs.Places.{placed, miscs}
 use Rattle.message.specs.HeadRules.{byte, type, Bytes}
 use Rattle.message.proofs.HeadRuleLaws.{bytes-size, bytes-some, size-bytes, head-exactly, misc-exactly}
 use Rattle.message.proofs.PlaceRuleLaws.{place-exactly}
 use Rattle.placement.specs.Cells.{Cell, owed, cellAt, carryOk}
 use Rattle.placement.specs.Checking.{used, populated, starting}
 use Rattle.placement.proofs.Keeps.{progress, cellOf, KeepsGranule, KeepsGroup, Keeps}
 use Rattle.placement.specs.Rules.{startBit, Starts, Origin, GoesOn, Populated, Unused, rest, last, empty, GranuleRules, GroupRules, Rules}
-use Rattle.reader.proofs.OccupyLaws.{Follow, follow, on-goes, goes-on, goes-twenty, granule-sized}
+use Rattle.placement.proofs.OccupyLaws.{Follow, follow, on-goes, goes-on, goes-twenty, granule-sized}
 
 -- ---- groups
 third-cases : (q g : ℕ) → g / 3 ≡ q → (g ≡ 3 * q) ⊎ ((g ≡ 3 * q + 1) ⊎ (g ≡ 3 * q + 2))

@@ -19,15 +19,15 @@ use Rattle.message.specs.HeadRules.{Bytes}
 use Rattle.message.specs.Places.{placed}
 use Rattle.message.proofs.HeadRuleLaws.{bytes-size, bytes-some, size-bytes, head-exactly}
 use Rattle.message.proofs.PlaceRuleLaws.{place-exactly}
 use Rattle.placement.specs.Cells.{Cell, carryOk}
 use Rattle.placement.proofs.Keeps.{progress, cellOf, KeepsGranule}
 use Rattle.placement.specs.Rules.{startBit, Starts, Origin, GoesOn, Populated}
-use Rattle.reader.proofs.OccupyLaws.{Follow, follow-to, goes-exactly}
-use Rattle.reader.proofs.RulesLaws.{unused-behind, behind-unused}
-use Rattle.reader.specs.Faults.{ContainerFault}
+use Rattle.placement.proofs.OccupyLaws.{Follow, follow-to, goes-exactly}
+use Rattle.placement.proofs.RulesLaws.{unused-behind, behind-unused}
+use Rattle.placement.specs.Faults.{ContainerFault}
 use Rattle.cause.specs.Order.{rank}
 use Rattle.cause.proofs.NamedLaws.{turnOf}
-use Rattle.reader.proofs.CellFaults.{Filled, StartsMisc, CellFault}
+use Rattle.placement.proofs.CellFaults.{Filled, StartsMisc, CellFault}
 use Rattle.lists.proofs.FailLaws.{not-zero}
 
 module _ (fm : Format) (m c : List ℕ) where
