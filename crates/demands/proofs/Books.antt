@@ -37,7 +37,9 @@ use Rattle.history.specs.Demand.{Closed}
 use Rattle.history.proofs.Below.{below-fits, fits-below, below-equal, equal-below}
 use Rattle.history.proofs.Calls.{Simulates}
 use Rattle.history.proofs.Demand.{books-close}
-use Rattle.demands.specs.Tap.{startsIn, endsIn, grantsOf, receiverFor, linkOf, accepting, heldIn, openIn, auditorOf}
+use Rattle.ledger.specs.Entries.{startsIn, endsIn}
+use Rattle.demands.specs.Tap.{grantsFrom}
+use Rattle.demands.specs.Tap.{receiverFor, linkOf, accepting, heldIn, openIn, auditorOf}
 use Rattle.demands.proofs.TapLaws.{reads-by, by-reads, passes-sound, receiver-valid, lawful}
 
 -- ---- directions and numbers
@@ -194,7 +196,7 @@ module _ (f : ℕ) (a b : Receiver) (v : configured f a b ≡ true) where
             long = x .long;
             state = x .reads;
             messages = subst (λ (q : Receiver). Pass (allMessages q (startsIn s c))) (r .receivers d) (x .messages);
-            grants = subst (λ (q : Receiver). Pass (allGrants q (grantsOf s c))) (ap (receiverOf l) (sym (number-opposite d)) ∙ r .receivers (opposite d)) (x .grants);
+            grants = subst (λ (q : Receiver). Pass (allGrants q (grantsFrom s c))) (ap (receiverOf l) (sym (number-opposite d)) ∙ r .receivers (opposite d)) (x .grants);
           }))
 
       -- what begins, ends and is granted in a related state
@@ -208,7 +210,7 @@ module _ (f : ℕ) (a b : Receiver) (v : configured f a b ≡ true) where
 
       grants-is : (p : ℕ) → grantedTo p (granted l n c) ≡ K .grants d (m .states d) c p
       unfolding begun granted
-      grants-is p = ap (λ (q : Reader). grantedTo p (grantsOf q c)) (r .states d)
+      grants-is p = ap (λ (q : Reader). grantedTo p (grantsFrom q c)) (r .states d)
 
       entry-forth : Accepted l n c → (link.ledgerOk K m && entryOk K m d c) ≡ true
       entry-forth x =
@@ -244,7 +246,7 @@ module _ (f : ℕ) (a b : Receiver) (v : configured f a b ≡ true) where
             long = rules .long;
             reads = rules .state;
             messages = subst (λ (q : Receiver). Pass (allMessages q (startsIn s c))) (sym (r .receivers d)) (rules .messages);
-            grants = subst (λ (q : Receiver). Pass (allGrants q (grantsOf s c))) (sym (ap (receiverOf l) (sym e) ∙ r .receivers (opposite d))) (rules .grants);
+            grants = subst (λ (q : Receiver). Pass (allGrants q (grantsFrom s c))) (sym (ap (receiverOf l) (sym e) ∙ r .receivers (opposite d))) (rules .grants);
             covered = λ p h.
                 let y = below-fits 14 (creditsPaid K m d c) (m .held d) (and-left covers room v2) p h in
                 let z = begins-is p in let w = held-is d p h in omega arith;

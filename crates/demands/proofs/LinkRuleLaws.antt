@@ -37,7 +37,9 @@ use Rattle.pools.proofs.PoolRuleLaws.{passes-exactly}
 use Rattle.pools.proofs.PaymentRuleLaws.{pays-exactly, payment-exactly}
 use Rattle.pools.proofs.GrantRuleLaws.{gives-exactly, grant-exactly}
 use Rattle.history.specs.Link.{opposite}
-use Rattle.demands.specs.Tap.{startsIn, grantsOf, receiverFor, ruleChecks}
+use Rattle.ledger.specs.Entries.{startsIn}
+use Rattle.demands.specs.Tap.{grantsFrom}
+use Rattle.demands.specs.Tap.{receiverFor, ruleChecks}
 use Rattle.demands.specs.LinkRules.{KeepsRules, startedIn, LinkRules}
 use Rattle.demands.proofs.TapLaws.{reads-by, by-reads}
 
@@ -136,7 +138,7 @@ module _ (own other : Receiver) (s : Reader) (c : List ℕ) (valid : ValidState 
       (λ h. r .1 (passes-keeps fm (carried s) c h), λ k. keeps-passes fm (carried s) c (r .0 k))
 
   -- the checks of pools are the rules for pools
-  pools-exactly : Rules fm (carried s) c → (Pass (allMessages own (startsIn s c)) × Pass (allGrants other (grantsOf s c))) ↔ KeepsPools own other fm c
+  pools-exactly : Rules fm (carried s) c → (Pass (allMessages own (startsIn s c)) × Pass (allGrants other (grantsFrom s c))) ↔ KeepsPools own other fm c
   unfolding allGrants
   pools-exactly k = (to, from)
     where
@@ -159,7 +161,7 @@ module _ (own other : Receiver) (s : Reader) (c : List ℕ) (valid : ValidState 
           let q = grant-exactly other n in
           (λ h. q .0 (p .1 h), λ h. p .0 (q .1 h))
 
-      to : Pass (allMessages own (startsIn s c)) × Pass (allGrants other (grantsOf s c)) → KeepsPools own other fm c
+      to : Pass (allMessages own (startsIn s c)) × Pass (allGrants other (grantsFrom s c)) → KeepsPools own other fm c
       to h =
           let a = all-messages own (startsIn s c) .0 (h .0) in
           let b = all-grants other (startsIn s c) .0 (pass-back (grantChecks other (headerGrant fm c)) (allGrants other (grantsIn (startsIn s c))) (h .1)) in
@@ -169,7 +171,7 @@ module _ (own other : Receiver) (s : Reader) (c : List ℕ) (valid : ValidState 
             grants = λ g l t x. grant (grantIn (granule fm g c)) .0 (given .0 (rw (starts-all s c) at b) g l t x);
           }
 
-      from : KeepsPools own other fm c → Pass (allMessages own (startsIn s c)) × Pass (allGrants other (grantsOf s c))
+      from : KeepsPools own other fm c → Pass (allMessages own (startsIn s c)) × Pass (allGrants other (grantsFrom s c))
       from v = (
         all-messages own (startsIn s c) .1 (rw (starts-all s c) (paid .1 (λ g l t. payment g l t .1 (v .messages g l t)))),
         pass-append (grantChecks other (headerGrant fm c)) (allGrants other (grantsIn (startsIn s c))) (grant (headerGrant fm c) .1 (v .heading))

@@ -30,7 +30,9 @@ use Rattle.ledger.specs.Audit.{configured}
 use Rattle.pools.specs.declared.receiver.Receiver.{Receiver}
 use Rattle.ledger.proofs.CarriedLaws.{paid-kept, next-passes}
 use Rattle.history.specs.Link.{Direction, direction0, direction1, opposite, Link, Lawful}
-use Rattle.demands.specs.Tap.{startsIn, grantsOf, receiverFor, ruleChecks, linkOf}
+use Rattle.ledger.specs.Entries.{startsIn}
+use Rattle.demands.specs.Tap.{grantsFrom}
+use Rattle.demands.specs.Tap.{receiverFor, ruleChecks, linkOf}
 
 -- a verdict that passes is sound
 pub passes-sound : (v : Verdict) → passes v ≡ true → v ≡ Sound
@@ -45,7 +47,7 @@ pub record Reads (own other : Receiver) (s : Reader) (c : List ℕ) : Type 0 whe
   pub long : length c ≡ 256
   pub state : Pass (stateChecks s c)
   pub messages : Pass (allMessages own (startsIn s c))
-  pub grants : Pass (allGrants other (grantsOf s c))
+  pub grants : Pass (allGrants other (grantsFrom s c))
 
 module _ (own other : Receiver) (s : Reader) (c : List ℕ) where
   abbrev test : Bool
@@ -54,20 +56,20 @@ module _ (own other : Receiver) (s : Reader) (c : List ℕ) where
   pub reads-by : test ≡ true → Reads own other s c
   reads-by e =
       let h = sound-pass (ruleChecks own other s c) (passes-sound (firstFault (ruleChecks own other s c)) (and-right (eqb (length c) 256) (passes (firstFault (ruleChecks own other s c))) e)) in
-      let b = pass-back (stateChecks s c) (allMessages own (startsIn s c) ++ allGrants other (grantsOf s c)) h in
+      let b = pass-back (stateChecks s c) (allMessages own (startsIn s c) ++ allGrants other (grantsFrom s c)) h in
       record {
         long = eqb-true (length c) 256 (and-left (eqb (length c) 256) (passes (firstFault (ruleChecks own other s c))) e);
-        state = pass-front (stateChecks s c) (allMessages own (startsIn s c) ++ allGrants other (grantsOf s c)) h;
-        messages = pass-front (allMessages own (startsIn s c)) (allGrants other (grantsOf s c)) b;
-        grants = pass-back (allMessages own (startsIn s c)) (allGrants other (grantsOf s c)) b;
+        state = pass-front (stateChecks s c) (allMessages own (startsIn s c) ++ allGrants other (grantsFrom s c)) h;
+        messages = pass-front (allMessages own (startsIn s c)) (allGrants other (grantsFrom s c)) b;
+        grants = pass-back (allMessages own (startsIn s c)) (allGrants other (grantsFrom s c)) b;
       }
 
   pub by-reads : Reads own other s c → test ≡ true
   by-reads r =
       and-both (eqb (length c) 256) (passes (firstFault (ruleChecks own other s c))) (eq-eqb (length c) 256 (r .long))
       (sound-passes (firstFault (ruleChecks own other s c)) (pass-sound (ruleChecks own other s c)
-      (pass-append (stateChecks s c) (allMessages own (startsIn s c) ++ allGrants other (grantsOf s c)) (r .state)
-      (pass-append (allMessages own (startsIn s c)) (allGrants other (grantsOf s c)) (r .messages) (r .grants)))))
+      (pass-append (stateChecks s c) (allMessages own (startsIn s c) ++ allGrants other (grantsFrom s c)) (r .state)
+      (pass-append (allMessages own (startsIn s c)) (allGrants other (grantsFrom s c)) (r .messages) (r .grants)))))
 
 -- ---- no pool past the last
 -- a valid receiver has at most eight planes
@@ -197,7 +199,7 @@ module _ (f : ℕ) (a b : Receiver) (v : configured f a b ≡ true) where
     none-lost = none-lost;
     fresh-ok = λ d. and-both (readerOk (readerWith f [])) true (with-valid f [] (and-left (ltb f 2) (receiverOk a && receiverOk b) v) refl (omega arith)) refl;
     next-ok = next-ok;
-    no-grant = λ d s c p e h. given-none (receiverFor a b (opposite d)) (receiver-valid (opposite d)) p h (grantsOf s c) (rules d s c e .grants);
+    no-grant = λ d s c p e h. given-none (receiverFor a b (opposite d)) (receiver-valid (opposite d)) p h (grantsFrom s c) (rules d s c e .grants);
     no-begin = λ d s c p e h. paid-none (receiverFor a b d) (receiver-valid d) p h (startsIn s c) (rules d s c e .messages);
     no-finish = no-finish;
   }

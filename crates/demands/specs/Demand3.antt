@@ -18,7 +18,8 @@ use Rattle.history.specs.Delays.{Delays}
 use Rattle.history.specs.Demand.{Closed}
 use Rattle.demands.specs.LinkRules.{LinkRules}
 use Rattle.demands.specs.LogTap.{LogDemand}
-use Rattle.demands.specs.Tap.{endsIn, linkOf, auditorOf}
+use Rattle.ledger.specs.Entries.{endsIn}
+use Rattle.demands.specs.Tap.{linkOf, auditorOf}
 
 pub record Demand3 : Type 1 where
   -- for every valid format and pair of receivers, for every list of calls from the fresh ledger, each with any direction number and any

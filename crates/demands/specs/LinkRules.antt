@@ -20,7 +20,8 @@ use Rattle.pools.specs.Pools.{chargedTo, grantedBy}
 use Rattle.pools.specs.PoolRules.{Pays, Gives, KeepsPools}
 use Rattle.pools.specs.declared.receiver.Receiver.{Receiver}
 use Rattle.history.specs.Link.{Direction, opposite}
-use Rattle.demands.specs.Tap.{startsIn, receiverFor, linkOf}
+use Rattle.ledger.specs.Entries.{startsIn}
+use Rattle.demands.specs.Tap.{receiverFor, linkOf}
 
 -- "Containers keep the rules above for bytes, heads and placement and these for pools": a container that a reader in this state meets, by
 -- the receiver of its direction and that of the opposite one

@@ -1,18 +1,16 @@
 -- The bench's own reader and pools as a link, and its audit as the audit of that link (document 01, "Pools and the audit").
 use Prim.Native.Nat.{ℕ}
 use mathlib.Core.Bool.{Bool, true, false, _&&_}
-use mathlib.Core.List.{List, [], _∷_, _++_}
+use mathlib.Core.List.{List, []}
 use lib.ListN.{length, getD}
 use lib.Dec.{eqb}
 use Rattle.cause.specs.Checks.{Check, firstFault, passes}
-use Rattle.container.specs.Layout.{formatOf}
-use Rattle.container.specs.Grants.{headerGrant}
-use Rattle.container.specs.declared.grant.Grant.{Grant}
 use Rattle.message.specs.Charges.{charges}
-use Rattle.placement.specs.Cells.{cells, endings, startings}
-use Rattle.reader.specs.Reading.{carried, readerOk, readerWith, stateChecks, nextReader}
+use Rattle.container.specs.declared.grant.Grant.{Grant}
+use Rattle.reader.specs.Reading.{stateChecks, carried, readerOk, readerWith, nextReader}
 use Rattle.reader.specs.declared.reader.Reader.{Reader}
-use Rattle.pools.specs.Pools.{messageChecks, allMessages, allGrants, chargedTo, paidTo, grantedTo, grantsIn}
+use Rattle.pools.specs.Pools.{messageChecks, chargedTo, paidTo, grantedTo}
+use Rattle.ledger.specs.Entries.{startsIn, endsIn, grantsOf, checksThen}
 use Rattle.ledger.specs.Audit.{freshLedger, auditing, reported}
 use Rattle.pools.specs.declared.receiver.Receiver.{Receiver}
 use Rattle.ledger.specs.declared.ledger.Ledger.{Ledger}
@@ -23,16 +21,8 @@ use Rattle.ledger.specs.declared.ledger.Answer.the-variants.{Accepted, Refused}
 use Rattle.history.specs.Link.{Direction, direction0, direction1, numberOf, opposite, Link}
 use Rattle.history.specs.Calls.{Auditor}
 
--- the messages that start in a container, and those that end in it, as a reader in this state finds them
-abbrev pub startsIn : Reader → List ℕ → List (List ℕ)
-startsIn s c = startings (cells (formatOf (s .format)) c 12 0 (carried s))
-
-abbrev pub endsIn : Reader → List ℕ → List (List ℕ)
-endsIn s c = endings (formatOf (s .format)) 0 (cells (formatOf (s .format)) c 12 0 (carried s)) (carried s)
-
--- the grants of a container: its header's, then those of the CrdtGrants that start in it
-abbrev pub grantsOf : Reader → List ℕ → List Grant
-grantsOf s c = headerGrant (formatOf (s .format)) c ∷ grantsIn (startsIn s c)
+abbrev pub grantsFrom : Reader → List ℕ → List Grant
+grantsFrom s c = grantsOf (formatOf (s .format)) c (startsIn s c)
 
 -- the receiver of a direction, of the two that a and b are
 abbrev pub receiverFor : Receiver → Receiver → Direction → Receiver
@@ -41,7 +31,7 @@ receiverFor a b direction1 = b
 
 -- the rules for bytes, heads and placement, and those for pools: the reader's checks, and 14 by messages and grants
 abbrev pub ruleChecks : Receiver → Receiver → Reader → List ℕ → List Check
-ruleChecks own other s c = stateChecks s c ++ (allMessages own (startsIn s c) ++ allGrants other (grantsOf s c))
+ruleChecks own other s c = checksThen own other (stateChecks s c) (startsIn s c) (grantsFrom s c) []
 
 -- the link of a format and two receivers
 abbrev pub linkOf : ℕ → Receiver → Receiver → Link
@@ -51,7 +41,7 @@ linkOf f a b = record {
   fresh = readerWith f [];
   reads = λ d s c. eqb (length c) 256 && passes (firstFault (ruleChecks (receiverFor a b d) (receiverFor a b (opposite d)) s c));
   next = λ d s c. nextReader s c;
-  grants = λ d s c p. grantedTo p (grantsOf s c);
+  grants = λ d s c p. grantedTo p (grantsFrom s c);
   begins = λ d s c p. paidTo p (startsIn s c);
   finishes = λ d s c p. paidTo p (endsIn s c);
   carried = λ s p. chargedTo p (charges (carried s));

@@ -10,15 +10,14 @@ use Rattle.cause.specs.declared.Verdict.{Verdict}
 use Rattle.cause.specs.declared.Verdict.the-variants.{Sound, Faulty}
 use Rattle.cause.specs.declared.Cause.the-variants.{InvalidState, ContainerLength, BegunOverGranted, GrantedOverCapacity}
 use Rattle.container.specs.Layout.{formatOf}
-use Rattle.container.specs.Grants.{headerGrant}
 use Rattle.container.specs.declared.grant.Grant.{Grant}
 use Rattle.message.specs.Charges.{charges}
-use Rattle.placement.specs.Cells.{Cell, cells, endings, startings}
 use Rattle.reader.specs.Reading.{readerOk, carried, stateChecks, nextReader}
 use Rattle.reader.specs.declared.reader.Reader.{Reader}
-use Rattle.pools.specs.Pools.{receiverOk, messageChecks, allMessages, allGrants, chargedTo, paidTo, grantedTo, grantsIn}
+use Rattle.pools.specs.Pools.{receiverOk, messageChecks, chargedTo, paidTo, grantedTo}
 use Rattle.pools.specs.Rows.{table}
 use Rattle.pools.specs.declared.receiver.Receiver.{Receiver}
+use Rattle.ledger.specs.Entries.{startsIn, endsIn, grantsOf, checksThen}
 use Rattle.ledger.specs.declared.ledger.Ledger.{Ledger}
 use Rattle.ledger.specs.declared.ledger.Answer.{Answer}
 use Rattle.ledger.specs.declared.ledger.Answer.the-variants as answer
@@ -65,18 +64,15 @@ ledgerOk s = directionOk s 0 && directionOk s 1
 abbrev pub opposite : ℕ → ℕ
 opposite d = 1 - d
 
--- the messages that start and that end in an entry, and the grants of its header and of its CrdtGrants
-abbrev pub cellsOf : Ledger → ℕ → List ℕ → List Cell
-cellsOf s d c = cells (formatOf (s .format)) c 12 0 (carried (readerOf s d))
-
+-- the messages that start and that end in an entry of direction d, and its grants
 unfoldable pub begun : Ledger → ℕ → List ℕ → List (List ℕ)
-begun s d c = startings (cellsOf s d c)
+begun s d c = startsIn (readerOf s d) c
 
 unfoldable pub finished : Ledger → ℕ → List ℕ → List (List ℕ)
-finished s d c = endings (formatOf (s .format)) 0 (cellsOf s d c) (carried (readerOf s d))
+finished s d c = endsIn (readerOf s d) c
 
 unfoldable pub granted : Ledger → ℕ → List ℕ → List Grant
-granted s d c = headerGrant (formatOf (s .format)) c ∷ grantsIn (begun s d c)
+granted s d c = grantsOf (formatOf (s .format)) c (begun s d c)
 
 -- 15: begun over granted, k pools from p on
 unfoldable pub heldChecks : Ledger → ℕ → List (List ℕ) → ℕ → ℕ → List Check
@@ -95,10 +91,8 @@ unfoldable pub auditChecks : Ledger → ℕ → List ℕ → List Check
 auditChecks s d c =
     check (ltb d 2 && ledgerOk s) InvalidState 0
     ∷ check (eqb (length c) 256) ContainerLength 0
-    ∷ stateChecks (readerOf s d) c
-    ++ (allMessages (receiverOf s d) (begun s d c)
-    ++ (allGrants (receiverOf s (opposite d)) (granted s d c)
-    ++ (heldChecks s d (begun s d c) 14 0 ++ roomChecks s (opposite d) (granted s d c) 14 0)))
+    ∷ checksThen (receiverOf s d) (receiverOf s (opposite d)) (stateChecks (readerOf s d) c) (begun s d c) (granted s d c)
+    (heldChecks s d (begun s d c) 14 0 ++ roomChecks s (opposite d) (granted s d c) 14 0)
 
 -- the numbers of direction e and pool p behind an accepted entry of direction d
 abbrev pub heldAfter : Ledger → ℕ → List ℕ → ℕ → ℕ → ℕ

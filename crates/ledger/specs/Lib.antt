@@ -1,3 +1,4 @@
+pub mod Entries
 pub mod Audit
 pub mod ValidLedger
 pub mod Idle

@@ -16,11 +16,11 @@ use Rattle.cause.specs.declared.Cause.the-variants.{MissingPool}
 use Rattle.container.specs.declared.grant.Grant.{Grant}
 use Rattle.message.specs.Heads.{typeOf, classOf}
 use Rattle.message.specs.Charges.{sharedCrdt, resPlane}
-use Rattle.pools.specs.Pools.{hasPool, paysReq, paysData, paysPush}
+use Rattle.pools.specs.Pools.{hasPool, paysReq, paysData, paysPush, messageChecks, grantChecks}
 use Rattle.pools.specs.declared.receiver.Receiver.{Receiver}
 use Rattle.pools.proofs.PaymentRuleLaws.{req-class, data-class, push-class}
 use Rattle.pools.specs.Faults.{PaymentFault, GrantFault, dedicated, push, dat0, dat1}
-use Rattle.cause.proofs.FirstLaws.{Site, Fails, Rises, Sounds}
+use Rattle.cause.proofs.FirstLaws.{Site, tests, Fails, Rises, Sounds}
 use Rattle.cause.proofs.RankedLaws.{fails-as}
 use Rattle.lists.proofs.FailLaws.{guard-fails, fail-guard, and-fails, or-fails, not-zero, zero-not}
 
@@ -36,6 +36,9 @@ module _ (r : Receiver) (m : List ℕ) where
       ∷ record { turn = n + 1; test = check (not (paysData (classOf t)) || (sharedCrdt (getD m 0 0) || hasPool r 12)) MissingPool 12 }
       ∷ record { turn = n + 2; test = check (not (paysPush (classOf t)) || (r .push && (eqb (getD m 1 0 % 2) 1 || hasPool r 13))) MissingPool 13 }
       ∷ []
+
+  pub payment-tests : (n : ℕ) → tests (paymentSites n) ≡ messageChecks r m
+  payment-tests n = refl
 
   pub payment-rises : (n : ℕ) → Rises n (paymentSites n) (n + 3)
   payment-rises n = (omega arith, (omega arith, (omega arith, omega arith)))
@@ -90,6 +93,9 @@ module _ (r : Receiver) (n : Grant) where
       record { turn = b + 0; test = check (n .shc || ltb (n .rp) (r .planes)) MissingPool (1 + n .rp) }
       ∷ record { turn = b + 1; test = check (n .shc || (eqb (n .dat) 0 || (r .push && ltb (n .rp) 2))) MissingPool (pick (eqb (n .rp) 0) 12 13) }
       ∷ []
+
+  pub grant-tests : (b : ℕ) → tests (grantSites b) ≡ grantChecks r n
+  grant-tests b = refl
 
   pub grant-rises : (b : ℕ) → Rises b (grantSites b) (b + 2)
   grant-rises b = (omega arith, (omega arith, omega arith))

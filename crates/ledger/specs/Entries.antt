@@ -1,0 +1,28 @@
+-- What an entry brings, as the reader of its direction finds it: messages, grants, and the checks before those of the ledger.
+use Prim.Native.Nat.{ℕ}
+use mathlib.Core.List.{List, _∷_, _++_}
+use Rattle.cause.specs.Checks.{Check}
+use Rattle.container.specs.Layout.{Format, formatOf}
+use Rattle.container.specs.Grants.{headerGrant}
+use Rattle.container.specs.declared.grant.Grant.{Grant}
+use Rattle.placement.specs.Cells.{cells, endings, startings}
+use Rattle.reader.specs.Reading.{carried, stateChecks}
+use Rattle.reader.specs.declared.reader.Reader.{Reader}
+use Rattle.pools.specs.Pools.{allMessages, allGrants, grantsIn}
+use Rattle.pools.specs.declared.receiver.Receiver.{Receiver}
+
+-- the messages that start in a container, and those that end in it, as a reader in this state finds them
+abbrev pub startsIn : Reader → List ℕ → List (List ℕ)
+startsIn s c = startings (cells (formatOf (s .format)) c 12 0 (carried s))
+
+abbrev pub endsIn : Reader → List ℕ → List (List ℕ)
+endsIn s c = endings (formatOf (s .format)) 0 (cells (formatOf (s .format)) c 12 0 (carried s)) (carried s)
+
+-- the grants of a container in which these messages start: its header's, then those of its CrdtGrants
+abbrev pub grantsOf : Format → List ℕ → List (List ℕ) → List Grant
+grantsOf fm c ms = headerGrant fm c ∷ grantsIn ms
+
+-- the reader's checks, then 14 by the messages ms and by the grants ns, by the receiver of the entry's direction and that of the opposite
+-- one, and other checks behind them
+abbrev pub checksThen : Receiver → Receiver → List Check → List (List ℕ) → List Grant → List Check → List Check
+checksThen own other state ms ns rest = state ++ (allMessages own ms ++ (allGrants other ns ++ rest))
