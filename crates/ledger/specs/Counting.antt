@@ -4,7 +4,7 @@ use mathlib.Core.Path.{_≡_}
 use mathlib.Core.Bool.{Bool, true, _&&_}
 use mathlib.Core.List.{List, [], _∷_, _++_}
 use lib.ListN.{getD, take, drop}
-use lib.Dec.{eqb, leb}
+use lib.Dec.{eqb, ltb, leb}
 use Rattle.lists.specs.Pick.{pick}
 use Rattle.cause.specs.Checks.{Check, check, firstFault, whenSound}
 use Rattle.cause.specs.declared.Verdict.the-variants.{Sound}
@@ -13,7 +13,7 @@ use Rattle.container.specs.Layout.{formatOf, start, bit}
 use Rattle.container.specs.Grants.{grantOf}
 use Rattle.container.specs.declared.grant.Grant.{Grant}
 use Rattle.message.specs.Heads.{miscBy, crdtGrant}
-use Rattle.message.specs.Charges.{chargesBy, listed, charges}
+use Rattle.message.specs.Charges.{reqPool, datPool, chargesBy, listed, charges}
 use Rattle.reader.specs.Reading.{carried}
 use Rattle.reader.specs.declared.reader.Reader.{Reader}
 use Rattle.ledger.specs.Pools.{paymentChecks, messageChecks, chargedTo, grantChecks, grantedBy}
@@ -31,6 +31,10 @@ raised f l = row (λ p. getD l p 0 + f p) 14 0
 -- counts that leave room for more
 abbrev pub Small : List ℕ → Type 0
 Small l = (p : ℕ) → getD l p 0 ≤ 65535
+
+-- the pool that a message of type t pays, but for push data: RSP or SNP, or the one of DAT or REQ that byte 0 names
+abbrev pub poolBy : ℕ → ℕ → ℕ
+poolBy t first = pick (leb 3 t && ltb t 6) (pick (eqb t 5) 10 9) (pick (leb 6 t && ltb t 8) (datPool first) (reqPool first))
 
 -- bytes 0 and 1 of what starts in granule g
 abbrev pub firstAt : List ℕ → ℕ → ℕ
