@@ -1,7 +1,7 @@
 -- Message heads (document 01): what type and op select, and which heads are right; a message is the list of its bytes.
 use Prim.Native.Nat.{ℕ, _/_, _%_}
 use mathlib.Core.Bool.{Bool, _&&_, _||_, not}
-use mathlib.Core.List.{List, [], _∷_}
+use mathlib.Core.List.{List, [], _∷_, _++_}
 use lib.ListN.{length, getD}
 use lib.Dec.{eqb, ltb, leb}
 use Rattle.lists.specs.Parts.{part, zeros}
@@ -39,9 +39,13 @@ crdtGrant = 2
 abbrev pub opSizes : List ℕ
 opSizes = 10 ∷ 10 ∷ 16 ∷ 10 ∷ 20 ∷ []
 
--- bytes by type from 0 on: none, ReqS, ReqL, Resp, Resp2, Snoop, DataS, DataL, WrReqDataS, WrReqDataL, MiscU by its op
+-- bytes by type from 0 on, below MiscU: none, ReqS, ReqL, Resp, Resp2, Snoop, DataS, DataL, WrReqDataS, WrReqDataL
+abbrev pub plainSizes : List ℕ
+plainSizes = 0 ∷ 20 ∷ 40 ∷ 10 ∷ 20 ∷ 20 ∷ 80 ∷ 100 ∷ 100 ∷ 120 ∷ []
+
+-- bytes by type from 0 on, those of a MiscU by its op
 abbrev pub typeSizes : ℕ → List ℕ
-typeSizes o = 0 ∷ 20 ∷ 40 ∷ 10 ∷ 20 ∷ 20 ∷ 80 ∷ 100 ∷ 100 ∷ 120 ∷ getD opSizes o 0 ∷ []
+typeSizes o = plainSizes ++ (getD opSizes o 0 ∷ [])
 
 -- bytes by type and op; 0 where either is unknown
 abbrev pub sizeBy : ℕ → ℕ → ℕ

@@ -6,7 +6,7 @@ ghost use lib.ListN.{getD};
 ghost use lib.Dec.{ltb};
 ghost use Rattle.lists.specs.Parts.{zeros, part};
 ghost use Rattle.container.specs.Grants.{formOk};
-ghost use Rattle.message.specs.Heads.{opSizes, sizeBy, msgSize, classOf, miscBy, flagBound, pushBy, activationBy, grantBy, wellHeaded, isMessage};
+ghost use Rattle.message.specs.Heads.{opSizes, plainSizes, sizeBy, msgSize, classOf, miscBy, flagBound, pushBy, activationBy, grantBy, wellHeaded, isMessage};
 use container::is_form;
 use slices::byte_at;
 use slices::is_zero;
@@ -36,12 +36,11 @@ fn measure_misc(op: u8) -> usize
     }
 }
 
-// The bytes of a message of a type and op, 0 where either is unknown.
-pub fn measure_code(kind: u8, op: u8) -> usize
-    ensures { λ r. ⌜ r ≡ sizeBy kind op ⌝ }
+// The bytes of a message other than MiscU, 0 where the type is unknown.
+fn measure_type(kind: u8) -> usize
+    ensures { λ r. ⌜ r ≡ getD plainSizes kind 0 ⌝ }
 {
     match kind {
-        0 => 0,
         1 => 20,
         2 => 40,
         3 => 10,
@@ -51,38 +50,19 @@ pub fn measure_code(kind: u8, op: u8) -> usize
         7 => 100,
         8 => 100,
         9 => 120,
+        0 | 10..=255 => 0,
+    }
+}
+
+// The bytes of a message of a type and op, 0 where either is unknown.
+pub fn measure_code(kind: u8, op: u8) -> usize
+    ensures { λ r. ⌜ r ≡ sizeBy kind op ⌝ }
+{
+    match kind {
+        1..=9 => measure_type(kind),
         10 => measure_misc(op),
-        11..=255 => 0,
+        0 | 11..=255 => 0,
     }
-}
-
-// The bytes of the messages other than MiscU, by type.
-const TYPE_SIZES: [u8; 10] = [0, 20, 40, 10, 20, 20, 80, 100, 100, 120];
-
-// The bytes of a MiscU, by op.
-const OP_SIZES: [u8; 5] = [10, 10, 16, 10, 20];
-
-// The entry of the tables for a type and op, 0 where either is unknown.
-fn find_size(kind: u8, op: u8) -> u8
-    ensures { λ r. ⌜ r ≡ sizeBy kind op ⌝ }
-{
-    if kind < 10 {
-        return TYPE_SIZES[kind as usize];
-    }
-    if kind != 10 {
-        return 0;
-    }
-    if op < 5 {
-        return OP_SIZES[op as usize];
-    }
-    0
-}
-
-// The same bytes as `measure_code` by tables, for the granule pass, which tests them.
-pub fn look_up_size(kind: u8, op: u8) -> usize
-    ensures { λ r. ⌜ r ≡ sizeBy kind op ⌝ }
-{
-    find_size(kind, op) as usize
 }
 
 // The bytes that a message has by its head, 0 where its type or op is unknown.

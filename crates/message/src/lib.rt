@@ -17,7 +17,6 @@ pub use heads::is_misc;
 pub use heads::is_well_headed;
 pub use heads::keeps_bytes;
 pub use heads::keeps_grant;
-pub use heads::look_up_size;
 pub use heads::measure_code;
 pub use heads::measure_message;
 pub use place::count_miscs;

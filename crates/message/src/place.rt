@@ -50,7 +50,7 @@ pub fn count_responses(kind: u8) -> u32
     match kind {
         3 => 1,
         4 => 2,
-        _ => 0,
+        0..=255 => 0,
     }
 }
 

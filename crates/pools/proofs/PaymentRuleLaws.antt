@@ -15,6 +15,8 @@ use Rattle.cause.specs.Checks.{Pass, firstFault, passes}
 use Rattle.message.specs.Heads.{classOf}
 use Rattle.message.specs.HeadRules.{byte, type, among}
 use Rattle.message.specs.Charges.{charges, sharedCrdt, reqPool, datPool, pushPool, oneOf, paidBy, listed}
+use Rattle.message.specs.Kinds.{paysBy}
+use Rattle.message.specs.Kinds as kinds
 use Rattle.message.specs.declared.heads.Class.{Class}
 use Rattle.message.specs.declared.heads.Class.the-variants.{Unknown, Request, Response, Snoop, Data, RequestData, Misc}
 use Rattle.message.proofs.HeadRuleLaws.{each-of, guarded}
@@ -23,7 +25,6 @@ use Rattle.pools.specs.PoolRules.{Exists, Shared, plane, SharedPush, Pay
 use Rattle.pools.specs.PoolRules.Exists.{always, req-plane}
 use Rattle.pools.specs.PoolRules.Pays.{shared-req, req, rsp, snp, shared-dat, dat, shared-push, push}
 use Rattle.pools.specs.declared.receiver.Receiver.{Receiver}
-use Rattle.pools.proofs.TypeLaws.{amount}
 use Rattle.pools.proofs.PoolRuleLaws.{by-test, passes-exactly, exists-exactly}
 
 -- ---- what messages pay
@@ -109,11 +110,11 @@ module _ (m : List ℕ) where
   pub push-class : among (8 ∷ 9 ∷ []) (type m) ≡ paysPush (classOf (type m))
   push-class = by-class m (8 ∷ 9 ∷ []) paysPush tt
 
-  rsp-class : among (3 ∷ 4 ∷ []) (type m) ≡ eqb (amount 1 (classOf (type m))) 1
-  rsp-class = by-class m (3 ∷ 4 ∷ []) (λ k. eqb (amount 1 k) 1) tt
+  rsp-class : among (3 ∷ 4 ∷ []) (type m) ≡ paysBy (classOf (type m)) kinds.rsp
+  rsp-class = by-class m (3 ∷ 4 ∷ []) (λ k. paysBy k kinds.rsp) tt
 
-  snp-class : among (5 ∷ []) (type m) ≡ eqb (amount 2 (classOf (type m))) 1
-  snp-class = by-class m (5 ∷ []) (λ k. eqb (amount 2 k) 1) tt
+  snp-class : among (5 ∷ []) (type m) ≡ paysBy (classOf (type m)) kinds.snp
+  snp-class = by-class m (5 ∷ []) (λ k. paysBy k kinds.snp) tt
 
   -- where the class is known, m is of one of the types of a list
   of-type : (l : List ℕ) (f : Class → Bool) → among l (type m) ≡ f (classOf (type m)) → {k : Class} → classOf (type m) ≡ k → f k ≡ true → T (among l (type m))
@@ -172,8 +173,8 @@ module _ (m : List ℕ) where
   paid-pays : (k : Class) → classOf (type m) ≡ k → (p : ℕ) → PaidBy k (byte m 0) (byte m 1) p → Pays m p 1
   paid-pays Unknown c p x = absurd x
   paid-pays Request c p x = rw x (pays-req (of-type (1 ∷ 2 ∷ 8 ∷ 9 ∷ []) paysReq req-class c refl))
-  paid-pays Response c p x = rw x (rsp (of-type (3 ∷ 4 ∷ []) (λ k. eqb (amount 1 k) 1) rsp-class c refl))
-  paid-pays Snoop c p x = rw x (snp (of-type (5 ∷ []) (λ k. eqb (amount 2 k) 1) snp-class c refl))
+  paid-pays Response c p x = rw x (rsp (of-type (3 ∷ 4 ∷ []) (λ k. paysBy k kinds.rsp) rsp-class c refl))
+  paid-pays Snoop c p x = rw x (snp (of-type (5 ∷ []) (λ k. paysBy k kinds.snp) snp-class c refl))
   paid-pays Data c p x = rw x (pays-data (of-type (6 ∷ 7 ∷ []) paysData data-class c refl))
   paid-pays RequestData c p x =
       ⊎-elim (λ (e : p ≡ reqPool (byte m 0)). rw e (pays-req (of-type (1 ∷ 2 ∷ 8 ∷ 9 ∷ []) paysReq req-class c refl)))

@@ -4,7 +4,7 @@ use mathlib.Core.Path.{_≡_}
 use mathlib.Core.Bool.{Bool, _&&_}
 use mathlib.Core.List.{List, [], _∷_, _++_}
 use lib.ListN.{length, getD, replicate}
-use lib.Dec.{eqb, ltb}
+use lib.Dec.{eqb, ltb, leb}
 use Rattle.lists.specs.Pick.{pick}
 use Rattle.cause.specs.Checks.{Check, check, firstFault, whenSound}
 use Rattle.cause.specs.declared.Cause.the-variants.{ContainerLength, HeaderGrantForm}
@@ -13,11 +13,15 @@ use Rattle.container.specs.Layout.{start, bit}
 use Rattle.container.specs.Grants.{grantOf}
 use Rattle.container.specs.declared.grant.Grant.{Grant}
 use Rattle.message.specs.Heads.{miscBy, crdtGrant}
-use Rattle.message.specs.Charges.{chargesBy, listed}
+use Rattle.message.specs.Charges.{reqPool, datPool, chargesBy, listed}
 use Rattle.pools.specs.Pools.{paymentChecks, chargedTo, grantChecks, grantedBy}
 use Rattle.pools.specs.Rows.{row}
 use Rattle.pools.specs.declared.receiver.Receiver.{Receiver}
 use Rattle.pools.specs.declared.tally.Tally.{Tally}
+
+-- the pool that a message of type t pays, but for push data: RSP or SNP, or the one of DAT or REQ that byte 0 names
+abbrev pub poolBy : ℕ → ℕ → ℕ
+poolBy t first = pick (leb 3 t && ltb t 6) (pick (eqb t 5) 10 9) (pick (leb 6 t && ltb t 8) (datPool first) (reqPool first))
 
 -- bytes 0 and 1 of what starts in granule g
 abbrev pub firstAt : List ℕ → ℕ → ℕ

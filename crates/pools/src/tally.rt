@@ -1,15 +1,15 @@
 // Counts by pool, and how they grow.
 ghost use mathlib.Core.Path.{_≡_};
-ghost use Prim.Native.Nat.{_+_, _/_, _%_, _<_, _^_};
-ghost use lib.Dec.{eqb};
+ghost use Prim.Native.Nat.{_+_, _%_, _<_, _^_};
+ghost use mathlib.Core.Bool.{_&&_};
+ghost use lib.Dec.{eqb, ltb, leb};
 ghost use lib.ListN.{length, getD, replicate};
 ghost use Rattle.cause.specs.declared.Verdict.the-variants.{Faulty};
 ghost use Rattle.lists.specs.Pick.{pick};
-ghost use Rattle.message.specs.Charges.{listed, chargesBy, charges};
+ghost use Rattle.message.specs.Charges.{reqPool, datPool, listed, chargesBy, charges};
 ghost use Rattle.pools.specs.Pools.{chargedTo};
-ghost use Rattle.pools.specs.Rows.{row};
-ghost use Rattle.pools.specs.Rows.{raised, Small};
-ghost use Rattle.pools.specs.Tallies.{startedAt};
+ghost use Rattle.pools.specs.Rows.{row, raised, Small};
+ghost use Rattle.pools.specs.Tallies.{poolBy, startedAt};
 use cause::Cause;
 use cause::Verdict;
 use container::locate_granule;
@@ -65,40 +65,68 @@ pub(crate) fn add_payment(counts: &mut [u32], first: u8, second: u8)
     }
 }
 
-// The types that pay a REQ credit, bit t for type t: 1, 2, 8 and 9.
-const REQ_TYPES: u16 = 0x306;
-
-// The types that pay an RSP credit: 3 and 4.
-const RSP_TYPES: u16 = 0x18;
-
-// The type that pays an SNP credit: 5.
-const SNP_TYPES: u16 = 0x20;
-
-// The types that pay a DAT credit by byte 0: 6 and 7.
-const DAT_TYPES: u16 = 0xC0;
-
-// The types that pay a DAT credit by byte 1, for push data: 8 and 9.
-const PUSH_TYPES: u16 = 0x300;
-
-// 1 where a type is one of these, else 0.
-fn count_type(types: u16, kind: u8) -> u32
-    requires { ⌜ kind < 16 ⌝ }
-    ensures { λ r. ⌜ r ≡ types / 2 ^ kind % 2 ⌝ }
+// The pool that byte 0 names: one of DAT where the type is DataS or DataL, else one of REQ.
+fn choose_named(kind: u8, first: u8) -> u8
+    ensures { λ r. ⌜ r ≡ pick (leb 6 kind && ltb kind 8) (datPool first) (reqPool first) ⌝ }
 {
-    ((types >> (kind as u16)) % 2) as u32
+    let dat = choose_dat(first);
+    let req = choose_req(first);
+    match kind {
+        6 | 7 => dat,
+        0..=255 => req,
+    }
 }
 
-// Adds the same as `add_payment` without a test of the type, for the granule pass.
+// The pool of a Resp, a Resp2 or a Snoop.
+fn choose_own(kind: u8) -> u8
+    ensures { λ r. ⌜ r ≡ pick (eqb kind 5) 10 9 ⌝ }
+{
+    match kind {
+        5 => 10,
+        0..=255 => 9,
+    }
+}
+
+// The pool that a message pays, but for push data; one of REQ where it pays none.
+fn choose_pool(kind: u8, first: u8) -> u8
+    ensures { λ r. ⌜ r ≡ poolBy kind first ⌝ }
+{
+    let own = choose_own(kind);
+    let named = choose_named(kind, first);
+    match kind {
+        3..=5 => own,
+        0..=255 => named,
+    }
+}
+
+// The credits that a message pays of that pool.
+fn count_credits(kind: u8) -> u32
+    ensures { λ r. ⌜ r ≡ pick (leb 1 kind && ltb kind 10) 1 0 ⌝ }
+{
+    match kind {
+        1..=9 => 1,
+        0 | 10..=255 => 0,
+    }
+}
+
+// The credits that a message pays for push data.
+fn count_push(kind: u8) -> u32
+    ensures { λ r. ⌜ r ≡ pick (leb 8 kind && ltb kind 10) 1 0 ⌝ }
+{
+    match kind {
+        8 | 9 => 1,
+        0..=255 => 0,
+    }
+}
+
+// Adds the same as `add_payment` without a branch on the type, for the granule pass.
 pub(crate) fn add_charges(counts: &mut [u32], first: u8, second: u8)
     requires { ⌜ (length (now counts) ≡ 14) × Small (now counts) ⌝ }
     ensures { λ _. ⌜ now (counts .exit) ≡ raised (λ p. chargedTo p (listed (chargesBy (first % 16) first second))) (now (counts .entry)) ⌝ }
 {
     let kind = first % 16;
-    add_count(counts, choose_req(first), count_type(REQ_TYPES, kind));
-    add_count(counts, 9, count_type(RSP_TYPES, kind));
-    add_count(counts, 10, count_type(SNP_TYPES, kind));
-    add_count(counts, choose_dat(first), count_type(DAT_TYPES, kind));
-    add_count(counts, choose_push(second), count_type(PUSH_TYPES, kind));
+    add_count(counts, choose_pool(kind, first), count_credits(kind));
+    add_count(counts, choose_push(second), count_push(kind));
 }
 
 // Byte 0 of what starts in granule g, 0 where nothing does.

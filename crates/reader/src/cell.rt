@@ -16,8 +16,8 @@ use message::count_responses;
 use message::is_misc;
 use message::keeps_bytes;
 use message::keeps_grant;
-use message::look_up_size;
 use message::may_start;
+use message::measure_code;
 use slices::byte_at;
 use slices::is_zero;
 
@@ -56,7 +56,7 @@ fn judge_start(format: u32, g: u8, part: &[u8]) -> Finding
     let first = byte_at(part, 0);
     let op = byte_at(part, 1);
     let kind = first % 16;
-    let size = look_up_size(kind, op);
+    let size = measure_code(kind, op);
     if size == 0 {
         return Finding::Fault(Cause::UnknownMessage);
     }

@@ -1,6 +1,10 @@
 -- `message::heads::measure_code` meets its contract.
-use Rattle.message.specs.Heads.{typeSizes}
-use Rattle.lists.proofs.Codes.{past}
+use Prim.Native.Nat.{_≤_}
+use mathlib.Core.Path.{sym, _∙_}
+use mathlib.Core.List.{[], _∷_}
+use native.Mathlib.Omega.{arith}
+use lib.ListN.{getD, List·getD-append, List·getD-eq-default}
+use Rattle.message.specs.Heads.{opSizes, plainSizes, typeSizes}
 use borrow.Author.Needs.{needs}
 use Rattle.message.proofs.heads.measure_code.Statement.{statement}
 use Rattle.message.proofs.heads.measure_code.Tie as tie
@@ -8,56 +12,25 @@ use Rattle.message.proofs.heads.measure_code.Tie as tie
 measure-misc-requires : tie.Need-measure-misc-requires
 measure-misc-requires c κs = search needs
 
+measure-type-requires : tie.Need-measure-type-requires
+measure-type-requires c κs = search needs
+
 returns : tie.Need-returns
 returns c = search needs
 
 returns-2 : tie.Need-returns-2
-returns-2 c = search needs
+returns-2 c =
+    let s = c .before .before .before in
+    c .measure-type .ensures ∙ sym (List·getD-append plainSizes (getD opSizes (s .args .op) 0 ∷ []) 0 (s .args .kind) (c .before .if1 .taken))
 
 returns-3 : tie.Need-returns-3
 returns-3 c = search needs
 
 returns-4 : tie.Need-returns-4
-returns-4 c = search needs
-
-returns-5 : tie.Need-returns-5
-returns-5 c = search needs
-
-returns-6 : tie.Need-returns-6
-returns-6 c = search needs
-
-returns-7 : tie.Need-returns-7
-returns-7 c = search needs
-
-returns-8 : tie.Need-returns-8
-returns-8 c = search needs
-
-returns-9 : tie.Need-returns-9
-returns-9 c = search needs
-
-returns-10 : tie.Need-returns-10
-returns-10 c = search needs
-
-returns-11 : tie.Need-returns-11
-returns-11 c = search needs
-
-returns-12 : tie.Need-returns-12
-returns-12 c = past (typeSizes (c .before .args .op)) 0 _ (c .match .rest)
+returns-4 c =
+    let past : 11 ≤ c .before .before .args .kind = omega (arith, c .if1 .left, c .before .match .rest) in
+    sym (List·getD-eq-default (typeSizes (c .before .before .args .op)) 0 past)
 
 pub measure-code-spec : {M : Type 1} → statement M
 measure-code-spec =
-    tie.close
-    (tie.spec
-    measure-misc-requires
-    returns
-    returns-2
-    returns-3
-    returns-4
-    returns-5
-    returns-6
-    returns-7
-    returns-8
-    returns-9
-    returns-10
-    returns-11
-    returns-12)
+    tie.close (tie.spec measure-misc-requires measure-type-requires returns returns-2 returns-3 returns-4)

@@ -1,7 +1,7 @@
 -- `pools::tally::add_charges` meets its contract.
 use native.Mathlib.Omega.{arith}
 use Rattle.pools.proofs.TallyLaws.{Counts}
-use Rattle.pools.proofs.TypeLaws.{add-req, add-rsp, add-snp, add-dat, add-push, add-all}
+use Rattle.pools.proofs.TypeLaws.{add-first, add-push, add-both}
 use borrow.Author.Needs.{needs}
 use Rattle.pools.proofs.tally.add_charges.Statement.{statement}
 use Rattle.pools.proofs.tally.add_charges.Tie as tie
@@ -9,94 +9,48 @@ use Rattle.pools.proofs.tally.add_charges.Tie as tie
 counts : (s : tie.Start) → Counts 65535 (s .args .counts .now)
 counts s = record { long = s .pre .0; most = s .pre .1 }
 
-choose-req-requires : tie.Need-choose-req-requires
-choose-req-requires c κs = search needs
+choose-pool-requires : tie.Need-choose-pool-requires
+choose-pool-requires c κs = search needs
 
-count-type-requires : tie.Need-count-type-requires
-count-type-requires c κs = search needs
+count-credits-requires : tie.Need-count-credits-requires
+count-credits-requires c κs = search needs
 
 add-count-requires : tie.Need-add-count-requires
 add-count-requires one κs =
     let s = one .before .before .before .before in
-    add-req (s .args .first) (s .args .second) (omega arith) (s .args .counts .now) (counts s) (one .before .choose-req .ensures) _ (one .count-type .ensures)
-
-count-type-requires-2 : tie.Need-count-type-requires-2
-count-type-requires-2 c κs = search needs
-
-add-count-requires-2 : tie.Need-add-count-requires-2
-add-count-requires-2 two κs =
-    let one = two .before .before .before .before .before in
-    let s = one .before .before .before .before in
-    add-rsp (s .args .first) (s .args .second) (omega arith) (s .args .counts .now) (counts s) (one .before .choose-req .ensures) _ (one .count-type .ensures) (two .before .before .before .before .add-count .ensures) _ (two .count-type2 .ensures)
-
-count-type-requires-3 : tie.Need-count-type-requires-3
-count-type-requires-3 c κs = search needs
-
-add-count-requires-3 : tie.Need-add-count-requires-3
-add-count-requires-3 three κs =
-    let two = three .before .before .before .before .before in
-    let one = two .before .before .before .before .before in
-    let s = one .before .before .before .before in
-    add-snp (s .args .first) (s .args .second) (omega arith) (s .args .counts .now) (counts s) (one .before .choose-req .ensures) _ (one .count-type .ensures) (two .before .before .before .before .add-count .ensures) _ (two .count-type2 .ensures) (three .before .before .before .before .add-count2 .ensures) _ (three .count-type3 .ensures)
-
-choose-dat-requires : tie.Need-choose-dat-requires
-choose-dat-requires c κs = search needs
-
-count-type-requires-4 : tie.Need-count-type-requires-4
-count-type-requires-4 c κs = search needs
-
-add-count-requires-4 : tie.Need-add-count-requires-4
-add-count-requires-4 four κs =
-    let three = four .before .before .before .before .before .before in
-    let two = three .before .before .before .before .before in
-    let one = two .before .before .before .before .before in
-    let s = one .before .before .before .before in
-    add-dat (s .args .first) (s .args .second) (omega arith) (s .args .counts .now) (counts s) (one .before .choose-req .ensures) _ (one .count-type .ensures) (two .before .before .before .before .add-count .ensures) _ (two .count-type2 .ensures) (three .before .before .before .before .add-count2 .ensures) _ (three .count-type3 .ensures) (four .before .before .before .before .before .add-count3 .ensures) (four .before .choose-dat .ensures) _ (four .count-type4 .ensures)
+    add-first (s .args .first) (s .args .second) (omega arith) (s .args .counts .now) (counts s) (one .before .choose-pool .ensures) (one .count-credits .ensures)
 
 choose-push-requires : tie.Need-choose-push-requires
 choose-push-requires c κs = search needs
 
-count-type-requires-5 : tie.Need-count-type-requires-5
-count-type-requires-5 c κs = search needs
+count-push-requires : tie.Need-count-push-requires
+count-push-requires c κs = search needs
 
-add-count-requires-5 : tie.Need-add-count-requires-5
-add-count-requires-5 five κs =
-    let four = five .before .before .before .before .before .before in
-    let three = four .before .before .before .before .before .before in
-    let two = three .before .before .before .before .before in
-    let one = two .before .before .before .before .before in
+add-count-requires-2 : tie.Need-add-count-requires-2
+add-count-requires-2 two κs =
+    let one = two .before .before .before .before .before .before in
     let s = one .before .before .before .before in
-    add-push (s .args .first) (s .args .second) (omega arith) (s .args .counts .now) (counts s) (one .before .choose-req .ensures) _ (one .count-type .ensures) (two .before .before .before .before .add-count .ensures) _ (two .count-type2 .ensures) (three .before .before .before .before .add-count2 .ensures) _ (three .count-type3 .ensures) (four .before .before .before .before .before .add-count3 .ensures) (four .before .choose-dat .ensures) _ (four .count-type4 .ensures) (five .before .before .before .before .before .add-count4 .ensures) (five .before .choose-push .ensures) _ (five .count-type5 .ensures)
+    add-push (s .args .first) (s .args .second) (omega arith) (s .args .counts .now) (counts s) (one .before .choose-pool .ensures) (one .count-credits .ensures) (two .before .before .before .before .before .add-count .ensures) (two .before .choose-push .ensures) (two .count-push .ensures)
 
 same-length : tie.Need-same-length
 same-length c = search needs
 
 returns : tie.Need-returns
 returns c =
-    let five = c .before .before .before in
-    let four = five .before .before .before .before .before .before in
-    let three = four .before .before .before .before .before .before in
-    let two = three .before .before .before .before .before in
-    let one = two .before .before .before .before .before in
+    let two = c .before .before .before in
+    let one = two .before .before .before .before .before .before in
     let s = one .before .before .before .before in
-    add-all (s .args .first) (s .args .second) (omega arith) (s .args .counts .now) (counts s) (one .before .choose-req .ensures) _ (one .count-type .ensures) (two .before .before .before .before .add-count .ensures) _ (two .count-type2 .ensures) (three .before .before .before .before .add-count2 .ensures) _ (three .count-type3 .ensures) (four .before .before .before .before .before .add-count3 .ensures) (four .before .choose-dat .ensures) _ (four .count-type4 .ensures) (five .before .before .before .before .before .add-count4 .ensures) (five .before .choose-push .ensures) _ (five .count-type5 .ensures) tt tt tt tt tt (c .before .before .add-count5 .ensures)
+    add-both (s .args .first) (s .args .second) (omega arith) (s .args .counts .now) (counts s) (one .before .choose-pool .ensures) (one .count-credits .ensures) (two .before .before .before .before .before .add-count .ensures) (two .before .choose-push .ensures) (two .count-push .ensures) (c .before .before .add-count2 .ensures)
 
 pub add-charges-spec : {M : Type 1} → statement M
 add-charges-spec =
     tie.close
     (tie.spec
-    choose-req-requires
-    count-type-requires
+    choose-pool-requires
+    count-credits-requires
     add-count-requires
-    count-type-requires-2
-    add-count-requires-2
-    count-type-requires-3
-    add-count-requires-3
-    choose-dat-requires
-    count-type-requires-4
-    add-count-requires-4
     choose-push-requires
-    count-type-requires-5
-    add-count-requires-5
+    count-push-requires
+    add-count-requires-2
     same-length
     returns)

@@ -14,8 +14,8 @@ byte-at-requires c κs = search needs
 byte-at-requires-2 : tie.Need-byte-at-requires-2
 byte-at-requires-2 c κs = search needs
 
-look-up-size-requires : tie.Need-look-up-size-requires
-look-up-size-requires c κs = search needs
+measure-code-requires : tie.Need-measure-code-requires
+measure-code-requires c κs = search needs
 
 returns : tie.Need-returns
 returns c =
@@ -23,7 +23,7 @@ returns c =
     let second = size .before in
     let first = second .before in
     let start = first .before .before in
-    unknown _ _ (start .args .part .now) (first .byte-at .ensures) (second .byte-at2 .ensures) (size .look-up-size .ensures) (c .if1 .taken)
+    unknown _ _ (start .args .part .now) (first .byte-at .ensures) (second .byte-at2 .ensures) (size .measure-code .ensures) (c .if1 .taken)
 
 may-start-requires : tie.Need-may-start-requires
 may-start-requires c κs = search needs
@@ -35,7 +35,7 @@ returns-2 c =
     let second = size .before in
     let first = second .before in
     let start = first .before .before in
-    misplaced _ _ (start .args .part .now) (first .byte-at .ensures) (second .byte-at2 .ensures) (size .look-up-size .ensures) (allowed .before .if1 .left) (allowed .may-start .ensures) (c .if2 .taken)
+    misplaced _ _ (start .args .part .now) (first .byte-at .ensures) (second .byte-at2 .ensures) (size .measure-code .ensures) (allowed .before .if1 .left) (allowed .may-start .ensures) (c .if2 .taken)
 
 byte-at-requires-3 : tie.Need-byte-at-requires-3
 byte-at-requires-3 c κs = search needs
@@ -53,7 +53,7 @@ returns-3 c =
     let first = second .before in
     let part = first .before .before .args .part .now in
     let wrong = bytes-break part (first .byte-at .ensures) (second .byte-at2 .ensures) (third .byte-at3 .ensures) (kept .keeps-bytes .ensures) (not-true _ (c .if3 .taken)) in
-    misheaded _ _ part (first .byte-at .ensures) (second .byte-at2 .ensures) (size .look-up-size .ensures) (allowed .before .if1 .left) (allowed .may-start .ensures) (third .before .if2 .left) wrong refl
+    misheaded _ _ part (first .byte-at .ensures) (second .byte-at2 .ensures) (size .measure-code .ensures) (allowed .before .if1 .left) (allowed .may-start .ensures) (third .before .if2 .left) wrong refl
 
 keeps-grant-requires : tie.Need-keeps-grant-requires
 keeps-grant-requires c κs = search needs
@@ -75,7 +75,7 @@ returns-4 c =
     let size = allowed .before .before in
     let second = size .before in
     let first = second .before in
-    misheaded _ _ (first .before .before .args .part .now) (first .byte-at .ensures) (second .byte-at2 .ensures) (size .look-up-size .ensures) (allowed .before .if1 .left) (allowed .may-start .ensures) (third .before .if2 .left) (headed-is headed) (c .if4 .taken)
+    misheaded _ _ (first .before .before .args .part .now) (first .byte-at .ensures) (second .byte-at2 .ensures) (size .measure-code .ensures) (allowed .before .if1 .left) (allowed .may-start .ensures) (third .before .if2 .left) (headed-is headed) (c .if4 .taken)
 
 has-zero-rest-requires : tie.Need-has-zero-rest-requires
 has-zero-rest-requires c κs = search needs
@@ -89,7 +89,7 @@ returns-5 c =
     let size = allowed .before .before in
     let second = size .before in
     let first = second .before in
-    start-not _ _ (first .before .before .args .part .now) (first .byte-at .ensures) (second .byte-at2 .ensures) (size .look-up-size .ensures) (allowed .before .if1 .left) (allowed .may-start .ensures) (third .before .if2 .left) (headed-is headed) (rest .before .if4 .left) (rest .has-zero-rest .ensures) (c .if5 .taken)
+    start-not _ _ (first .before .before .args .part .now) (first .byte-at .ensures) (second .byte-at2 .ensures) (size .measure-code .ensures) (allowed .before .if1 .left) (allowed .may-start .ensures) (third .before .if2 .left) (headed-is headed) (rest .before .if4 .left) (rest .has-zero-rest .ensures) (c .if5 .taken)
 
 mark-start-requires : tie.Need-mark-start-requires
 mark-start-requires c κs = search needs
@@ -103,7 +103,7 @@ returns-6 c =
     let size = allowed .before .before in
     let second = size .before in
     let first = second .before in
-    start-fine _ _ (first .before .before .args .part .now) (first .byte-at .ensures) (second .byte-at2 .ensures) (size .look-up-size .ensures) (allowed .before .if1 .left) (allowed .may-start .ensures) (third .before .if2 .left) (headed-is headed) (rest .before .if4 .left) (rest .has-zero-rest .ensures) (c .before .if5 .left) (c .mark-start .ensures)
+    start-fine _ _ (first .before .before .args .part .now) (first .byte-at .ensures) (second .byte-at2 .ensures) (size .measure-code .ensures) (allowed .before .if1 .left) (allowed .may-start .ensures) (third .before .if2 .left) (headed-is headed) (rest .before .if4 .left) (rest .has-zero-rest .ensures) (c .before .if5 .left) (c .mark-start .ensures)
 
 pub judge-start-spec : {M : Type 1} → statement M
 judge-start-spec =
@@ -111,7 +111,7 @@ judge-start-spec =
     (tie.spec
     byte-at-requires
     byte-at-requires-2
-    look-up-size-requires
+    measure-code-requires
     returns
     may-start-requires
     returns-2
