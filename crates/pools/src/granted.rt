@@ -11,6 +11,7 @@ ghost use Rattle.cause.specs.declared.Verdict.the-variants.{Sound};
 ghost use Rattle.pools.specs.Pools.{grantChecks, grantedBy};
 ghost use Rattle.pools.specs.Rows.{Small, raised};
 ghost use Rattle.pools.specs.Tallies.{grantsAt, grantAt, crdtChecks, crdtGives, Tallied, grantsGive, grantedTally};
+use crate::kinds::Credits;
 use crate::receiver::Receiver;
 use crate::tally::Tally;
 use crate::tally::add_count;
@@ -53,10 +54,10 @@ fn add_grant(grant: Grant, counts: &mut [u32])
     requires { ⌜ (length (now counts) ≡ 14) × Small (now counts) ⌝ }
     ensures { λ _. ⌜ now (counts .exit) ≡ raised (λ p. grantedBy p grant) (now (counts .entry)) ⌝ }
 {
-    add_count(counts, choose_req(grant), grant.req as u32);
-    add_count(counts, 9, grant.rsp as u32);
-    add_count(counts, 10, grant.snp as u32);
-    add_count(counts, choose_dat(grant), grant.dat as u32);
+    add_count(counts, choose_req(grant), Credits(grant.req as u32));
+    add_count(counts, 9, Credits(grant.rsp as u32));
+    add_count(counts, 10, Credits(grant.snp as u32));
+    add_count(counts, choose_dat(grant), Credits(grant.dat as u32));
 }
 
 // A grant: judged, and what it gives added.

@@ -1,7 +1,7 @@
 // Credits and slots, two kinds of count that are never mixed.
 ghost use mathlib.Core.Path.{_≡_};
-ghost use Prim.Native.Nat.{_+_};
-ghost use lib.Dec.{leb};
+ghost use Prim.Native.Nat.{_+_, _-_, _<_, _^_, min};
+ghost use lib.Dec.{eqb, leb};
 
 // Credits of one pool.
 pub struct Credits(pub u32);
@@ -17,12 +17,60 @@ impl Credits {
         charge.0 <= self.0
     }
 
+    // These credits and more of them.
+    pub(crate) fn add(self, more: Credits) -> Credits
+        requires { ⌜ self .0 + more .0 < 2 ^ 32 ⌝ }
+        ensures { λ r. ⌜ r ≡ record { 0 = self .0 + more .0 } ⌝ }
+    {
+        Credits(self.0 + more.0)
+    }
+
+    // These credits and more of them, at most as many as a count holds.
+    pub fn raise(self, more: Credits) -> Credits
+        ensures { λ r. ⌜ r ≡ record { 0 = min (self .0 + more .0) 4294967295 } ⌝ }
+    {
+        if u32::MAX - self.0 < more.0 {
+            return Credits(u32::MAX);
+        }
+        self.add(more)
+    }
+
+    // What is left of these credits behind a charge, none where it is more.
+    pub fn spend(self, charge: Credits) -> Credits
+        ensures { λ r. ⌜ r ≡ record { 0 = self .0 - charge .0 } ⌝ }
+    {
+        if self.0 < charge.0 {
+            return Credits(0);
+        }
+        Credits(self.0 - charge.0)
+    }
+
     // The slots that these credits stand for: the one way from one kind to the other.
     pub fn claim(self) -> Slots
         ensures { λ r. ⌜ r ≡ record { 0 = self .0 } ⌝ }
     {
         Slots(self.0)
     }
+}
+
+impl Slots {
+    // Whether these slots are as many as others.
+    pub fn equal(self, other: Slots) -> bool
+        ensures { λ r. ⌜ r ≡ eqb (self .0) (other .0) ⌝ }
+    {
+        self.0 == other.0
+    }
+}
+
+// The slots that a row of credits stands for.
+pub(crate) fn claim_row(credits: [u32; 14]) -> [u32; 14]
+    ensures { λ r. ⌜ r ≡ credits ⌝ }
+{
+    let mut slots = credits;
+    for p in 0..14 {
+        slots[p] = Credits(credits[p]).claim().0;
+    }
+    slots
 }
 
 // Three counts of slots together, which 64 bits hold.

@@ -10,6 +10,8 @@ ghost use Rattle.message.specs.Charges.{reqPool, datPool, listed, chargesBy, ch
 ghost use Rattle.pools.specs.Pools.{chargedTo};
 ghost use Rattle.pools.specs.Rows.{row, raised, Small};
 ghost use Rattle.pools.specs.Tallies.{poolBy, startedAt};
+use crate::kinds::Credits;
+use crate::kinds::claim_row;
 use cause::Cause;
 use cause::Verdict;
 use container::locate_granule;
@@ -38,13 +40,13 @@ pub(crate) fn refuse_tally(cause: Cause, place: u64) -> Tally
 }
 
 // Adds to the count of one pool.
-pub(crate) fn add_count(counts: &mut [u32], pool: u8, amount: u32)
+pub(crate) fn add_count(counts: &mut [u32], pool: u8, amount: Credits)
     requires { ⌜ (length (now counts) ≡ 14) × (pool < 14) ⌝ }
-    requires { ⌜ getD (now counts) pool 0 + amount < 2 ^ 32 ⌝ }
-    ensures { λ _. ⌜ now (counts .exit) ≡ raised (λ p. pick (eqb pool p) amount 0) (now (counts .entry)) ⌝ }
+    requires { ⌜ getD (now counts) pool 0 + amount .0 < 2 ^ 32 ⌝ }
+    ensures { λ _. ⌜ now (counts .exit) ≡ raised (λ p. pick (eqb pool p) (amount .0) 0) (now (counts .entry)) ⌝ }
 {
     let i = pool as usize;
-    counts[i] = counts[i] + amount;
+    counts[i] = Credits(counts[i]).add(amount).0;
 }
 
 // Adds what a message pays, by its bytes 0 and 1.
@@ -56,11 +58,11 @@ pub(crate) fn add_payment(counts: &mut [u32], first: u8, second: u8)
     match charges {
         Charges::Free => {}
         Charges::One(one) => {
-            add_count(counts, one.pool, one.amount);
+            add_count(counts, one.pool, Credits(one.amount));
         }
         Charges::Two(one, two) => {
-            add_count(counts, one.pool, one.amount);
-            add_count(counts, two.pool, two.amount);
+            add_count(counts, one.pool, Credits(one.amount));
+            add_count(counts, two.pool, Credits(two.amount));
         }
     }
 }
@@ -125,8 +127,12 @@ pub(crate) fn add_charges(counts: &mut [u32], first: u8, second: u8)
     ensures { λ _. ⌜ now (counts .exit) ≡ raised (λ p. chargedTo p (listed (chargesBy (first % 16) first second))) (now (counts .entry)) ⌝ }
 {
     let kind = first % 16;
-    add_count(counts, choose_pool(kind, first), count_credits(kind));
-    add_count(counts, choose_push(second), count_push(kind));
+    add_count(
+        counts,
+        choose_pool(kind, first),
+        Credits(count_credits(kind)),
+    );
+    add_count(counts, choose_push(second), Credits(count_push(kind)));
 }
 
 // Byte 0 of what starts in granule g, 0 where nothing does.
@@ -138,10 +144,18 @@ pub(crate) fn read_start(container: &[u8], starts: u16, g: u8) -> u8
 }
 
 // What a carried message pays of each pool.
-pub fn count_carry(carry: &[u8]) -> [u32; 14]
+fn count_payment(carry: &[u8]) -> [u32; 14]
     ensures { λ r. ⌜ r ≡ row (λ p. chargedTo p (charges (now (carry .entry)))) 14 0 ⌝ }
 {
     let mut counts = [0u32; 14];
     add_payment(&mut counts, byte_at(carry, 0), byte_at(carry, 1));
     counts
+}
+
+// The slots of each pool that a carried message takes: those that its payment stands for.
+pub fn count_carry(carry: &[u8]) -> [u32; 14]
+    ensures { λ r. ⌜ r ≡ row (λ p. chargedTo p (charges (now (carry .entry)))) 14 0 ⌝ }
+{
+    let paid = count_payment(carry);
+    claim_row(paid)
 }

@@ -15,16 +15,16 @@ bytes s = record { req = omega arith; rsp = omega arith; snp = omega arith; dat 
 choose-req-requires : tie.Need-choose-req-requires
 choose-req-requires c κs = search needs
 
-cast-add-count : tie.Need-cast-add-count
-cast-add-count c = search needs
+cast-t7 : tie.Need-cast-t7
+cast-t7 c = search needs
 
 add-count-requires : tie.Need-add-count-requires
 add-count-requires c κs =
     let s = c .before .before .before .before in
     add-req (s .args .grant) (s .args .counts .now) (counts s) (bytes s) (s .pre .0 .0) (c .before .choose-req .ensures)
 
-cast-add-count-2 : tie.Need-cast-add-count-2
-cast-add-count-2 c = search needs
+cast-t7-2 : tie.Need-cast-t7-2
+cast-t7-2 c = search needs
 
 add-count-requires-2 : tie.Need-add-count-requires-2
 add-count-requires-2 c κs =
@@ -33,8 +33,8 @@ add-count-requires-2 c κs =
     let s = chosen .before .before .before in
     add-rsp (s .args .grant) (s .args .counts .now) (counts s) (bytes s) (s .pre .0 .0) (chosen .choose-req .ensures) (first .add-count .ensures)
 
-cast-add-count-3 : tie.Need-cast-add-count-3
-cast-add-count-3 c = search needs
+cast-t7-3 : tie.Need-cast-t7-3
+cast-t7-3 c = search needs
 
 add-count-requires-3 : tie.Need-add-count-requires-3
 add-count-requires-3 c κs =
@@ -47,8 +47,8 @@ add-count-requires-3 c κs =
 choose-dat-requires : tie.Need-choose-dat-requires
 choose-dat-requires c κs = search needs
 
-cast-add-count-4 : tie.Need-cast-add-count-4
-cast-add-count-4 c = search needs
+cast-t7-4 : tie.Need-cast-t7-4
+cast-t7-4 c = search needs
 
 add-count-requires-4 : tie.Need-add-count-requires-4
 add-count-requires-4 c κs =
@@ -76,14 +76,14 @@ add-grant-spec =
     tie.close
     (tie.spec
     choose-req-requires
-    cast-add-count
+    cast-t7
     add-count-requires
-    cast-add-count-2
+    cast-t7-2
     add-count-requires-2
-    cast-add-count-3
+    cast-t7-3
     add-count-requires-3
     choose-dat-requires
-    cast-add-count-4
+    cast-t7-4
     add-count-requires-4
     same-length
     returns)

@@ -1,36 +1,17 @@
 -- `pools::tally::count_carry` meets its contract.
-use Prim.Native.Nat.{_%_}
-use mathlib.Core.Path.{refl, _∙_}
+use mathlib.Core.Path.{_∙_}
 use borrow.Author.Needs.{needs}
-use Rattle.message.specs.Charges.{chargesBy}
-use Rattle.pools.proofs.TallyLaws.{raised-zeros, zero-counts, taken}
 use Rattle.pools.proofs.tally.count_carry.Statement.{statement}
 use Rattle.pools.proofs.tally.count_carry.Tie as tie
 
-slice-aggregate-add-payment : tie.Need-slice-aggregate-add-payment
-slice-aggregate-add-payment c = search needs
+count-payment-requires : tie.Need-count-payment-requires
+count-payment-requires c κs = search needs
 
-byte-at-requires : tie.Need-byte-at-requires
-byte-at-requires c κs = search needs
-
-byte-at-requires-2 : tie.Need-byte-at-requires-2
-byte-at-requires-2 c κs = search needs
-
-add-payment-requires : tie.Need-add-payment-requires
-add-payment-requires c κs = (refl, zero-counts 65535 .most)
+claim-row-requires : tie.Need-claim-row-requires
+claim-row-requires c κs = search needs
 
 returns : tie.Need-returns
-returns c =
-    let h = c .before .before in
-    c .before .add-payment .ensures ∙ raised-zeros (taken (chargesBy (h .before .byte-at .result % 16) (h .before .byte-at .result) (h .byte-at2 .result)))
-    ∙ rw (h .before .byte-at .ensures, h .byte-at2 .ensures)
+returns c = c .claim-row .ensures ∙ c .before .count-payment .ensures
 
 pub count-carry-spec : {M : Type 1} → statement M
-count-carry-spec =
-    tie.close
-    (tie.spec
-    slice-aggregate-add-payment
-    byte-at-requires
-    byte-at-requires-2
-    add-payment-requires
-    returns)
+count-carry-spec = tie.close (tie.spec count-payment-requires claim-row-requires returns)
