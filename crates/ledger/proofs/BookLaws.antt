@@ -1,7 +1,7 @@
 -- The books of an entry, pool by pool. Assumes nothing.
-use Prim.Native.Nat.{ℕ, zero, suc, _+_, _-_, _≤_, _<_}
+use Prim.Native.Nat.{ℕ, zero, suc, _+_, _-_, _≤_, _<_, _^_, min}
 use mathlib.Core.Path.{_≡_, refl, sym, ap, ap₂, _∙_}
-use mathlib.Core.Bool.{Bool, false, _&&_}
+use mathlib.Core.Bool.{Bool, true, false, _&&_, not}
 use mathlib.Core.List.{List, [], _∷_}
 use native.Mathlib.Nat.{zero-add}
 use native.Mathlib.Omega.{arith}
@@ -16,6 +16,14 @@ use Rattle.pools.specs.declared.kinds.Credits.{Credits}
 use Rattle.pools.proofs.PoolLoops.{Tests, Checks}
 use Rattle.pools.proofs.RowLaws.{length-row, row-at, row-same}
 use Rattle.pools.proofs.TableLaws.{Rows}
+
+not-so : (s : Bool) → not s ≡ true → s ≡ false
+not-so true e = sym e
+not-so false e = refl
+
+so : (s : Bool) → not s ≡ false → s ≡ true
+so true e = refl
+so false e = sym e
 
 -- begun against held, pool by pool
 pub short-checks : (held begun : List ℕ) → Checks (shortChecks held begun) (λ p. leb (getD begun p 0) (getD held p 0)) BegunOverGranted
@@ -38,11 +46,16 @@ module _ (held opened paid capacities : List ℕ) where
   book-tests = record { none = λ p. refl; more = λ k p. refl }
 
   -- the test as the code makes it: open against paid first
-  pub unpaid : (p : ℕ) → (getD opened p 0 ≡ getD paid p 0 → ⊥) → false ≡ kept p
-  unpaid p d = rw (ne-eqb (getD opened p 0) (getD paid p 0) d)
+  pub unpaid : (p : ℕ) {s : Bool} → s ≡ eqb (getD opened p 0) (getD paid p 0) → not s ≡ true → false ≡ kept p
+  unpaid p {s} es d = rw (sym es ∙ not-so s d)
 
-  pub paid-fits : (p : ℕ) → getD opened p 0 ≡ getD paid p 0 → {t : Bool} → t ≡ leb (getD held p 0 + (0 + getD opened p 0)) (getD capacities p 0) → t ≡ kept p
-  paid-fits p e et = et ∙ rw (zero-add (getD opened p 0), eq-eqb (getD opened p 0) (getD paid p 0) e)
+  pub paid-fits : (p : ℕ) {s : Bool} → s ≡ eqb (getD opened p 0) (getD paid p 0) → not s ≡ false → {t : Bool}
+      → t ≡ leb (getD held p 0 + (0 + getD opened p 0)) (getD capacities p 0) → t ≡ kept p
+  paid-fits p {s} es e et = et ∙ rw (zero-add (getD opened p 0), sym es ∙ so s e)
+
+-- credits that a count holds
+pub raised-is : (a b : ℕ) → a + b < 2 ^ 32 → {w : Credits} → w ≡ record { 0 = min (a + b) 4294967295 } → w ≡ record { 0 = a + b }
+raised-is a b h e = let s : min (a + b) 4294967295 ≡ a + b = omega arith in e ∙ rw s
 
 -- two rows, row by row
 both : {a b c d : List ℕ} → a ≡ c → b ≡ d → _≡_ {A = List (List ℕ)} (a ∷ b ∷ []) (c ∷ d ∷ [])

@@ -63,33 +63,17 @@ pub(crate) fn keeps_books(
 {
     let mut p: usize = 0;
     while p < 14 {
-        let messages = opened[direction][p];
-        if messages != paid[p] {
+        let messages = Slots(opened[direction][p]);
+        if !messages.equal(Slots(paid[p])) {
             return false;
         }
         let credits = Credits(held[direction][p]);
-        if !fit_together(credits, Credits(0), Slots(messages), Slots(capacities[p])) {
+        if !fit_together(credits, Credits(0), messages, Slots(capacities[p])) {
             return false;
         }
         p += 1;
     }
     true
-}
-
-// Credits and more of them.
-fn add_credits(held: Credits, more: Credits) -> Credits
-    requires { ⌜ held .0 + more .0 < 2 ^ 32 ⌝ }
-    ensures { λ r. ⌜ r ≡ record { 0 = held .0 + more .0 } ⌝ }
-{
-    Credits(held.0 + more.0)
-}
-
-// What is left of credits behind a charge.
-fn spend_credits(held: Credits, charge: Credits) -> Credits
-    requires { ⌜ charge .0 ≤ held .0 ⌝ }
-    ensures { λ r. ⌜ r ≡ record { 0 = held .0 - charge .0 } ⌝ }
-{
-    Credits(held.0 - charge.0)
 }
 
 // Credits held behind an entry: fewer where messages began, more in the other direction.
@@ -108,14 +92,14 @@ pub(crate) fn settle_held(
     let other = 1 - direction;
     let mut p: usize = 0;
     while p < 14 {
-        next[direction][p] = spend_credits(Credits(held[direction][p]), Credits(begun[p])).0;
-        next[other][p] = add_credits(Credits(held[other][p]), Credits(granted[p])).0;
+        next[direction][p] = Credits(held[direction][p]).spend(Credits(begun[p])).0;
+        next[other][p] = Credits(held[other][p]).raise(Credits(granted[p])).0;
         p += 1;
     }
     next
 }
 
-// Messages open behind an entry: in its direction, what the carry pays.
+// Messages open behind an entry: in its direction, the slots that the carry takes.
 pub(crate) fn settle_opened(
     opened: [[u32; 14]; 2],
     direction: usize,

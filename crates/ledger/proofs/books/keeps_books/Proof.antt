@@ -23,36 +23,11 @@ abbrev μ-loop : tie.MeasureT-loop
 loop-holds : tie.Need-loop-holds Inv-loop μ-loop
 loop-holds c = (omega arith, refl)
 
-mul-messages : tie.Need-mul-messages Inv-loop μ-loop
-mul-messages c = omega arith
-
-mul-messages-2 : tie.Need-mul-messages-2 Inv-loop μ-loop
-mul-messages-2 c = omega arith
-
-index-1-messages : tie.Need-index-1-messages Inv-loop μ-loop
-index-1-messages c = omega arith
-
-index-2-messages : tie.Need-index-2-messages Inv-loop μ-loop
-index-2-messages c = omega arith
-
-mul-if1 : tie.Need-mul-if1 Inv-loop μ-loop
-mul-if1 c = omega arith
-
-array-read-if1 : tie.Need-array-read-if1 Inv-loop μ-loop
-array-read-if1 c = omega arith
-
-returns : tie.Need-returns Inv-loop μ-loop
-returns c =
-    let turn = c .before .before in
-    let at-loop = turn .before in
-    let args = at-loop .before .args in
-    tests-stop (book-tests (getD (args .t1) (args .direction) []) (getD (args .t2) (args .direction) []) (args .t4) (args .t5)) (at-loop .loop .p) (turn .loop-test .taken) (at-loop .loop .inv .1) (unpaid (getD (args .t1) (args .direction) []) (getD (args .t2) (args .direction) []) (args .t4) (args .t5) (at-loop .loop .p) (c .if1 .taken)) refl
+mul-t14 : tie.Need-mul-t14 Inv-loop μ-loop
+mul-t14 c = omega arith
 
 mul-t17 : tie.Need-mul-t17 Inv-loop μ-loop
 mul-t17 c = omega arith
-
-mul-t14 : tie.Need-mul-t14 Inv-loop μ-loop
-mul-t14 c = omega arith
 
 index-1-t20 : tie.Need-index-1-t20 Inv-loop μ-loop
 index-1-t20 c = omega arith
@@ -60,11 +35,39 @@ index-1-t20 c = omega arith
 index-2-t20 : tie.Need-index-2-t20 Inv-loop μ-loop
 index-2-t20 c = omega arith
 
-mul-t17-2 : tie.Need-mul-t17-2 Inv-loop μ-loop
-mul-t17-2 c = omega arith
+mul-t14-2 : tie.Need-mul-t14-2 Inv-loop μ-loop
+mul-t14-2 c = omega arith
 
 array-read-t20 : tie.Need-array-read-t20 Inv-loop μ-loop
 array-read-t20 c = omega arith
+
+equal-requires : tie.Need-equal-requires Inv-loop μ-loop
+equal-requires c κs = search needs
+
+returns : tie.Need-returns Inv-loop μ-loop
+returns c =
+    let turn = c .before .before .before in
+    let at-loop = turn .before in
+    let args = at-loop .before .args in
+    tests-stop (book-tests (getD (args .t1) (args .direction) []) (getD (args .t2) (args .direction) []) (args .t4) (args .t5)) (at-loop .loop .p) (turn .loop-test .taken) (at-loop .loop .inv .1) (unpaid (getD (args .t1) (args .direction) []) (getD (args .t2) (args .direction) []) (args .t4) (args .t5) (at-loop .loop .p) (c .before .equal .ensures) (c .if1 .taken)) refl
+
+mul-t17-2 : tie.Need-mul-t17-2 Inv-loop μ-loop
+mul-t17-2 c = omega arith
+
+mul-t14-3 : tie.Need-mul-t14-3 Inv-loop μ-loop
+mul-t14-3 c = omega arith
+
+index-1-t20-2 : tie.Need-index-1-t20-2 Inv-loop μ-loop
+index-1-t20-2 c = omega arith
+
+index-2-t20-2 : tie.Need-index-2-t20-2 Inv-loop μ-loop
+index-2-t20-2 c = omega arith
+
+mul-t17-3 : tie.Need-mul-t17-3 Inv-loop μ-loop
+mul-t17-3 c = omega arith
+
+array-read-t20-2 : tie.Need-array-read-t20-2 Inv-loop μ-loop
+array-read-t20-2 c = omega arith
 
 fit-together-requires : tie.Need-fit-together-requires Inv-loop μ-loop
 fit-together-requires c κs = search needs
@@ -72,10 +75,10 @@ fit-together-requires c κs = search needs
 returns-2 : tie.Need-returns-2 Inv-loop μ-loop
 returns-2 c =
     let same = c .before .before .before in
-    let turn = same .before .before in
+    let turn = same .before .before .before in
     let at-loop = turn .before in
     let args = at-loop .before .args in
-    tests-stop (book-tests (getD (args .t1) (args .direction) []) (getD (args .t2) (args .direction) []) (args .t4) (args .t5)) (at-loop .loop .p) (turn .loop-test .taken) (at-loop .loop .inv .1) (paid-fits (getD (args .t1) (args .direction) []) (getD (args .t2) (args .direction) []) (args .t4) (args .t5) (at-loop .loop .p) (same .if1 .left) (c .before .fit-together .ensures)) (c .if2 .taken)
+    tests-stop (book-tests (getD (args .t1) (args .direction) []) (getD (args .t2) (args .direction) []) (args .t4) (args .t5)) (at-loop .loop .p) (turn .loop-test .taken) (at-loop .loop .inv .1) (paid-fits (getD (args .t1) (args .direction) []) (getD (args .t2) (args .direction) []) (args .t4) (args .t5) (at-loop .loop .p) (same .before .equal .ensures) (same .if1 .left) (c .before .fit-together .ensures)) (c .if2 .taken)
 
 add-p : tie.Need-add-p Inv-loop μ-loop
 add-p c = omega arith
@@ -86,11 +89,11 @@ loop-less c = omega arith
 loop-again : tie.Need-loop-again Inv-loop μ-loop
 loop-again c =
     let same = c .before .before .before in
-    let turn = same .before .before in
+    let turn = same .before .before .before in
     let at-loop = turn .before in
     let args = at-loop .before .args in (
       omega arith,
-      tests-go-on (book-tests (getD (args .t1) (args .direction) []) (getD (args .t2) (args .direction) []) (args .t4) (args .t5)) (at-loop .loop .p) (turn .loop-test .taken) (at-loop .loop .inv .1) (paid-fits (getD (args .t1) (args .direction) []) (getD (args .t2) (args .direction) []) (args .t4) (args .t5) (at-loop .loop .p) (same .if1 .left) (c .before .fit-together .ensures)) (c .if2 .left),
+      tests-go-on (book-tests (getD (args .t1) (args .direction) []) (getD (args .t2) (args .direction) []) (args .t4) (args .t5)) (at-loop .loop .p) (turn .loop-test .taken) (at-loop .loop .inv .1) (paid-fits (getD (args .t1) (args .direction) []) (getD (args .t2) (args .direction) []) (args .t4) (args .t5) (at-loop .loop .p) (same .before .equal .ensures) (same .if1 .left) (c .before .fit-together .ensures)) (c .if2 .left),
     )
 
 returns-3 : tie.Need-returns-3 Inv-loop μ-loop
@@ -106,19 +109,20 @@ keeps-books-spec =
     Inv-loop
     μ-loop
     loop-holds
-    mul-messages
-    mul-messages-2
-    index-1-messages
-    index-2-messages
-    mul-if1
-    array-read-if1
-    returns
-    mul-t17
     mul-t14
+    mul-t17
     index-1-t20
     index-2-t20
-    mul-t17-2
+    mul-t14-2
     array-read-t20
+    equal-requires
+    returns
+    mul-t17-2
+    mul-t14-3
+    index-1-t20-2
+    index-2-t20-2
+    mul-t17-3
+    array-read-t20-2
     fit-together-requires
     returns-2
     add-p

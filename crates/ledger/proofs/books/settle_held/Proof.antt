@@ -2,7 +2,8 @@
 use Prim.Native.Nat.{_-_, _≤_}
 use mathlib.Core.Path.{_≡_, _∙_}
 use native.Mathlib.Omega.{arith}
-use Rattle.ledger.proofs.BookLaws.{settledTo, settled-more, settled-all}
+use borrow.Author.Needs.{needs}
+use Rattle.ledger.proofs.BookLaws.{raised-is, settledTo, settled-more, settled-all}
 use Rattle.pools.proofs.TableLaws.{rows-of}
 use Rattle.ledger.proofs.books.settle_held.Statement.{statement}
 use Rattle.ledger.proofs.books.settle_held.Tie as tie
@@ -37,8 +38,8 @@ mul-t22 c = omega arith
 array-read-t25 : tie.Need-array-read-t25 Inv-loop μ-loop
 array-read-t25 c = omega arith
 
-spend-credits-requires : tie.Need-spend-credits-requires Inv-loop μ-loop
-spend-credits-requires c κs = c .before .before .before .pre .1 .0 (c .before .before .loop .p)
+spend-requires : tie.Need-spend-requires Inv-loop μ-loop
+spend-requires c κs = search needs
 
 mul-next : tie.Need-mul-next Inv-loop μ-loop
 mul-next c = omega arith
@@ -70,8 +71,8 @@ mul-t22-2 c = omega arith
 array-read-t25-2 : tie.Need-array-read-t25-2 Inv-loop μ-loop
 array-read-t25-2 c = omega arith
 
-add-credits-requires : tie.Need-add-credits-requires Inv-loop μ-loop
-add-credits-requires c κs = c .before .before .before .before .before .pre .1 .1 (c .before .before .before .before .loop .p)
+raise-requires : tie.Need-raise-requires Inv-loop μ-loop
+raise-requires c κs = search needs
 
 mul-next-3 : tie.Need-mul-next-3 Inv-loop μ-loop
 mul-next-3 c = omega arith
@@ -99,7 +100,7 @@ loop-again c =
     let start = at-loop .before in
     let args = start .args in (
       omega arith,
-      settled-more (args .t1) (args .t3) (args .t4) (rows-of (args .t1) _ (start .good .0)) (at-loop .loop .p) (turn .loop-test .taken) (args .direction) (start .pre .0) (at-loop .loop .inv .1) (spent .spend-credits .ensures) (c .add-credits .ensures),
+      settled-more (args .t1) (args .t3) (args .t4) (rows-of (args .t1) _ (start .good .0)) (at-loop .loop .p) (turn .loop-test .taken) (args .direction) (start .pre .0) (at-loop .loop .inv .1) (spent .spend .ensures) (raised-is _ _ (start .pre .1 .1 (at-loop .loop .p)) (c .raise .ensures)),
     )
 
 returns : tie.Need-returns Inv-loop μ-loop
@@ -123,7 +124,7 @@ settle-held-spec =
     index-2-t20
     mul-t22
     array-read-t25
-    spend-credits-requires
+    spend-requires
     mul-next
     mul-next-2
     index-1-next
@@ -134,7 +135,7 @@ settle-held-spec =
     index-2-t20-2
     mul-t22-2
     array-read-t25-2
-    add-credits-requires
+    raise-requires
     mul-next-3
     mul-next-4
     index-1-next-2
