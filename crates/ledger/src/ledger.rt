@@ -9,6 +9,7 @@ ghost use Rattle.cause.specs.declared.Verdict.the-variants.{Sound};
 ghost use Rattle.container.specs.Layout.{formatOf, msgStart};
 ghost use Rattle.container.specs.Grants.{headerGrant};
 ghost use Rattle.reader.specs.Reading.{judgeChecks, nextReader, carried};
+ghost use Rattle.pools.specs.Rows.{flattened};
 ghost use Rattle.ledger.specs.Audit.{receiverOf, readerOf, directionOk, ledgerOk, configured, opening, auditing, reported};
 ghost use Rattle.ledger.specs.Counting.{pooled, resting, settling, entered};
 use crate::books::judge_begun;
@@ -234,12 +235,20 @@ impl Ledger {
     }
 
     // The ledger behind an accepted entry.
-    fn enter(self, direction: usize, next: Reader, held: [u32; 28], opened: [u32; 28]) -> Ledger
-        ensures { λ r. ⌜ r ≡ entered self direction next held opened ⌝ }
+    fn enter(
+        self,
+        direction: usize,
+        next: Reader,
+        held: [[u32; 14]; 2],
+        opened: [[u32; 14]; 2],
+    ) -> Ledger
+        ensures { λ r. ⌜ r ≡ entered self direction next (flattened held) (flattened opened) ⌝ }
     {
+        let credits = flatten(held);
+        let messages = flatten(opened);
         let mut ledger = self;
-        ledger.held = held;
-        ledger.opened = opened;
+        ledger.held = credits;
+        ledger.opened = messages;
         let carry = next.carry;
         if direction == 0 {
             ledger.carry0 = carry;
@@ -274,8 +283,8 @@ impl Ledger {
         let carry = next.carry;
         let len = next.len;
         let paid = count_carry(&carry[0..len]);
-        let held_after = flatten(settle_held(held, direction, begun, granted));
-        let opened_after = flatten(settle_opened(opened, direction, paid));
+        let held_after = settle_held(held, direction, begun, granted);
+        let opened_after = settle_opened(opened, direction, paid);
         Step {
             ledger: self.enter(direction, next, held_after, opened_after),
             answer: Answer::Accepted,

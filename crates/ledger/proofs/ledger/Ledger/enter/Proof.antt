@@ -1,13 +1,24 @@
 -- `ledger::ledger::Ledger::enter` meets its contract.
+use borrow.Author.Needs.{needs}
 use borrow.Author.Tests.{eq-eqb, ne-eqb}
 use Rattle.ledger.proofs.ledger.Ledger.enter.Statement.{statement}
 use Rattle.ledger.proofs.ledger.Ledger.enter.Tie as tie
 
+flatten-requires : tie.Need-flatten-requires
+flatten-requires c κs = search needs
+
+flatten-requires-2 : tie.Need-flatten-requires-2
+flatten-requires-2 c κs = search needs
+
 returns : tie.Need-returns
-returns c = rw (eq-eqb _ _ (c .if1 .taken))
+returns c =
+    let flat = c .before .before in
+    rw (eq-eqb _ _ (c .if1 .taken), flat .flatten2 .ensures, flat .before .flatten .ensures)
 
 returns-2 : tie.Need-returns-2
-returns-2 c = rw (ne-eqb _ _ (c .if1 .left))
+returns-2 c =
+    let flat = c .before .before in
+    rw (ne-eqb _ _ (c .if1 .left), flat .flatten2 .ensures, flat .before .flatten .ensures)
 
 pub enter-spec : {M : Type 1} → statement M
-enter-spec = tie.close (tie.spec returns returns-2)
+enter-spec = tie.close (tie.spec flatten-requires flatten-requires-2 returns returns-2)

@@ -91,24 +91,18 @@ settle-held-requires c κs =
       ),
     )
 
-flatten-requires : tie.Need-flatten-requires
-flatten-requires c κs = search needs
-
 settle-opened-requires : tie.Need-settle-opened-requires
 settle-opened-requires c κs = search needs
-
-flatten-requires-2 : tie.Need-flatten-requires-2
-flatten-requires-2 c κs = search needs
 
 enter-requires : tie.Need-enter-requires
 enter-requires c κs = search needs
 
 returns-3 : tie.Need-returns-3
 returns-3 c =
-    let start = c .before .before .before .before .before .before .before .before .before .before .before .before .before .before .before .before .before .before .before .before .before in
-    settle-done (start .args .self) (start .args .direction) (start .args .next) (start .args .begun) (start .args .granted) (c .before .before .before .before .before .before .before .before .before .before .before .before .before .before .before .before .before .before .before .nest .ensures) (c .before .before .before .before .before .before .before .before .before .before .before .before .before .before .before .before .before .before .judge-begun .ensures) (c .before .before .before .before .before .before .before .before .before .before .before .before .before .before .before .before .enum-told .given .1)
-    (c .before .before .before .before .before .before .before .before .before .before .before .before .before .before .nest2 .ensures) refl (c .before .before .before .before .before .before .before .before .before .before .before .before .before .choose-receiver .ensures) (c .before .before .before .before .before .before .before .before .before .before .before .judge-granted .ensures) (c .before .before .before .before .before .before .before .before .before .enum-told2 .given .1)
-    (c .before .before .before .before .before .count-carry .ensures) (c .before .before .before .before .settle-held .ensures) (c .before .before .before .flatten .ensures) (c .before .before .settle-opened .ensures) (c .before .flatten2 .ensures) (c .enter .ensures)
+    let start = c .before .before .before .before .before .before .before .before .before .before .before .before .before .before .before .before .before .before .before in
+    settle-done (start .args .self) (start .args .direction) (start .args .next) (start .args .begun) (start .args .granted) (c .before .before .before .before .before .before .before .before .before .before .before .before .before .before .before .before .before .nest .ensures) (c .before .before .before .before .before .before .before .before .before .before .before .before .before .before .before .before .judge-begun .ensures) (c .before .before .before .before .before .before .before .before .before .before .before .before .before .before .enum-told .given .1)
+    (c .before .before .before .before .before .before .before .before .before .before .before .before .nest2 .ensures) refl (c .before .before .before .before .before .before .before .before .before .before .before .choose-receiver .ensures) (c .before .before .before .before .before .before .before .before .before .judge-granted .ensures) (c .before .before .before .before .before .before .before .enum-told2 .given .1)
+    (c .before .before .before .count-carry .ensures) (c .before .before .settle-held .ensures) refl (c .before .settle-opened .ensures) refl (c .enter .ensures)
 
 pub settle-spec : {M : Type 1} → statement M
 settle-spec =
@@ -133,8 +127,6 @@ settle-spec =
     part-count-carry-end
     count-carry-requires
     settle-held-requires
-    flatten-requires
     settle-opened-requires
-    flatten-requires-2
     enter-requires
     returns-3)
