@@ -14,7 +14,7 @@ use Rattle.lists.proofs.PartLaws.{length-put}
 use Rattle.container.specs.Layout.{Format, formatOf, start, wide, granule}
 use Rattle.container.proofs.Formats.{granule-length}
 use Rattle.reader.specs.Tracking.{gathered}
-use Rattle.reader.proofs.CopyLaws.{put-none, put-more}
+use Rattle.lists.proofs.PutLaws.{put-none, put-more}
 use Rattle.reader.proofs.TrackCases.{wide-part}
 
 module _ (fm : Format) (c : List ℕ) (s : ℕ) where

@@ -19,7 +19,7 @@ use Rattle.reader.specs.declared.track.Track.{Track}
 use Rattle.reader.proofs.ProgressLaws.{endings-of}
 use Rattle.reader.proofs.TrackLaws.{Follows, follows, ended-by, ending-sized, carry-firm, firm}
 use Rattle.reader.proofs.CarryLaws.{ended-room}
-use Rattle.reader.proofs.CopyLaws.{put-none, put-more}
+use Rattle.lists.proofs.PutLaws.{put-none, put-more}
 use Rattle.record.proofs.RecordLaws.{records-append}
 
 -- the messages whose last granules are below g stand as records at the front of the room l, over l₀
