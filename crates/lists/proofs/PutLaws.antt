@@ -1,4 +1,4 @@
--- Parts put in place, one behind the other. Assumes nothing.
+-- Parts put in a list one behind the other. Assumes nothing.
 use Prim.Native.Nat.{ℕ, _+_, _≤_, _<_}
 use mathlib.Core.Path.{_≡_, sym, ap, _∙_}
 use mathlib.Core.List.{List, [], _∷_, _++_, append-assoc}

@@ -11,10 +11,10 @@ use borrow.Author.Tests.{eq-eqb, ne-eqb}
 use Rattle.lists.specs.Pick.{pick}
 use Rattle.lists.specs.Parts.{put, pad}
 use Rattle.lists.proofs.PartLaws.{length-put}
+use Rattle.lists.proofs.PutLaws.{put-none, put-more}
 use Rattle.container.specs.Layout.{Format, formatOf, start, wide, granule}
 use Rattle.container.proofs.Formats.{granule-length}
 use Rattle.reader.specs.Tracking.{gathered}
-use Rattle.lists.proofs.PutLaws.{put-none, put-more}
 use Rattle.reader.proofs.TrackCases.{wide-part}
 
 module _ (fm : Format) (c : List ℕ) (s : ℕ) where

@@ -9,6 +9,7 @@ use native.Mathlib.Numerals.{add-one}
 use lib.ListN.{length, length-append}
 use Rattle.lists.specs.Parts.{put}
 use Rattle.lists.proofs.PartLaws.{length-put}
+use Rattle.lists.proofs.PutLaws.{put-none, put-more}
 use Rattle.container.specs.Layout.{Format, formatOf, msgStart}
 use Rattle.record.specs.Records.{recordsOf}
 use Rattle.reader.specs.Cells.{cells, endings, ended}
@@ -19,7 +20,6 @@ use Rattle.reader.specs.declared.track.Track.{Track}
 use Rattle.reader.proofs.ProgressLaws.{endings-of}
 use Rattle.reader.proofs.TrackLaws.{Follows, follows, ended-by, ending-sized, carry-firm, firm}
 use Rattle.reader.proofs.CarryLaws.{ended-room}
-use Rattle.lists.proofs.PutLaws.{put-none, put-more}
 use Rattle.record.proofs.RecordLaws.{records-append}
 
 -- the messages whose last granules are below g stand as records at the front of the room l, over l₀
