@@ -319,7 +319,7 @@ all-used m t l [] at left e =
     (omega arith, ⊎-elim (λ x. x .0) (λ x. let z = x .1 in absurd (omega arith)) (begun-count m t))
 all-used m t l (x ∷ ms) at left e = absurd (omega arith)
 
-going-none : (f : ℕ) (l : List ℕ) (at : ℕ) (w : Writer) → Going f l 0 at w → (at ≡ length l) × (length (tailOf w) ≡ 0)
+pub going-none : (f : ℕ) (l : List ℕ) (at : ℕ) (w : Writer) → Going f l 0 at w → (at ≡ length l) × (length (tailOf w) ≡ 0)
 going-none f l at w g =
     let a = all-used (g .carry) (g .tail) l (g .rest) at (g .left) (omega (arith, g .few)) in
     (a .0, rw (g .is-writer, tail-of f (g .tail)) (a .1))
@@ -335,7 +335,7 @@ module _ (f : ℕ) (small : f < 2) (l : List ℕ) (hb : IsBytes l) (short : leng
   Fillings cs at w = FillingLeft (writerWith f []) l cs (firstGrants n (length cs)) at w
 
   -- one more fill
-  one-more : (cs : List (List ℕ)) (at : ℕ) (w : Writer) (c : List ℕ) (u : ℕ) (w′ : Writer) → Fillings cs at w → Fills w (drop at l) (n (length cs)) c u w′
+  pub one-more : (cs : List (List ℕ)) (at : ℕ) (w : Writer) (c : List ℕ) (u : ℕ) (w′ : Writer) → Fillings cs at w → Fills w (drop at l) (n (length cs)) c u w′
       → Fillings (cs ++ (c ∷ [])) (at + u) w′
   one-more cs at w c u w′ done h =
       let e : suc (length cs) ≡ length (cs ++ (c ∷ [])) = omega (arith, length-append cs (c ∷ [])) in
