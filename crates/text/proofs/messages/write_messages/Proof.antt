@@ -8,7 +8,7 @@ use lib.ListN.{length, drop, length-drop}
 use Rattle.record.specs.Records.{firstOf}
 use Rattle.record.specs.declared.list.First.the-variants.{Whole}
 use Rattle.record.proofs.RecordLaws.{found}
-use Rattle.text.proofs.LineLaws.{lines-empty, lines-bad, lines-none, Lined, lined-none, too-small, lined-all, Turn, turn, line-asks, lined-more}
+use Rattle.text.proofs.MessageLaws.{lines-empty, lines-bad, lines-none, Lined, lined-none, too-small, lined-all, Turn, turn, line-asks, lined-more}
 use Rattle.text.proofs.messages.write_messages.Statement.{statement}
 use Rattle.text.proofs.messages.write_messages.Tie as tie
 
