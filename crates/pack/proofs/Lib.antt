@@ -1,2 +1,3 @@
+pub mod Containers
 pub mod Fills
-pub mod Verdicts
+pub mod Outputs

@@ -187,7 +187,7 @@ module _ (f : ℕ) (n : Grant) (m t l : List ℕ) (ms : List (List ℕ)) (small 
       rw (lt-ltb f 2 small, le-leb (length t) 100 (link-most m t link .1), eq-eqb (length t % 20) 0 (link-granules m t link), d)
       (zeros-replicate (100 - length t))
 
-  call-sound : (k : ℕ) → k ≡ 256 → fillFault (writerWith f t) l n k ≡ Sound
+  pub call-sound : (k : ℕ) → k ≡ 256 → fillFault (writerWith f t) l n k ≡ Sound
   unfolding fillFault callChecks
   call-sound k e =
       rw (pass-sound (callChecks (writerWith f t) (length l) n k)
@@ -254,7 +254,7 @@ progress f n quiet s w l c u w′ k h some =
 -- ---- a writer along a list
 
 -- what is left of a list, seen from what was left before
-left-here : (l : List ℕ) (at : ℕ) (ms : List (List ℕ)) → Left l at ms → Left (drop at l) 0 ms
+pub left-here : (l : List ℕ) (at : ℕ) (ms : List (List ℕ)) → Left l at ms → Left (drop at l) 0 ms
 left-here l at ms h = record { within = omega arith; records = h .records; all = h .all }
 
 left-there : (l : List ℕ) (at u : ℕ) (ms : List (List ℕ)) → at ≤ length l → Left (drop at l) u ms → Left l (at + u) ms
