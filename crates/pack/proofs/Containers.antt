@@ -181,8 +181,8 @@ list-carried f l hb small e =
     let short = fill-callable (writerWith f []) l zeroGrant 256 e .short in
     let ms = list-left l hb (list-sound f l e) in
     let count = ap length (ms .1 .records) in
-    let few : length (ms .0) ≤ 384 = omega (arith, records-few (ms .0) (ms .1 .all)) in
-    let r = goes f small l hb short 384 (length (ms .0)) 0 (writerWith f []) [] [] (going-first f l (ms .0) (ms .1)) refl none few in
+    let few : length (ms .0) ≤ mostContainers = omega (arith, records-few (ms .0) (ms .1 .all)) in
+    let r = goes f small l hb short mostContainers (length (ms .0)) 0 (writerWith f []) [] [] (going-first f l (ms .0) (ms .1)) refl none few in
     record {
       used-up = r .used-up;
       output = ap (λ (v : Verdict). outputOf v (containersOf mostContainers (formatOf f) [] l)) e ∙ ap joinAll (sym (r .all));

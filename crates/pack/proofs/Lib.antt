@@ -1,3 +1,4 @@
 pub mod Containers
 pub mod Fills
 pub mod Outputs
+pub mod Refills
