@@ -8,10 +8,11 @@ use native.Mathlib.Omega.{arith}
 use lib.ListN.{length, drop}
 use lib.Dec.{leb}
 use borrow.Author.Tests.{leb-true, leb-false}
+use Rattle.lists.specs.Parts.{joinAll}
 use Rattle.lists.proofs.Tests.{cases}
 use Rattle.ledger.specs.Log.{Setting, wrong, set-up, settingOf, Next, over, onward}
 use Rattle.ledger.specs.Stream.{most, ready, stoppedAt, stepped, readFrom, started, startBy, beginning, Running, consuming, verdictFrom}
-use Rattle.ledger.specs.Cutting.{told, joinAll, run}
+use Rattle.ledger.specs.Cutting.{told, run}
 use Rattle.ledger.specs.declared.ledger.Ledger.{Ledger}
 use Rattle.ledger.specs.declared.log.LogVerdict.{LogVerdict}
 use Rattle.ledger.specs.declared.log.Outcome.{Outcome}

@@ -10,6 +10,7 @@ use lib.Seq.{drop-append-le, drop-drop}
 use lib.Dec.{ltb, leb, eqb}
 use borrow.Author.Tests.{ltb-true, ltb-false, leb-true, leb-false, lt-ltb, le-ltb, le-leb, lt-leb, eq-eqb, ne-eqb, eqb-true, eqb-false}
 use Rattle.lists.specs.Pick.{pick}
+use Rattle.lists.specs.Parts.{joinAll}
 use Rattle.lists.proofs.Tests.{cases, never-both, not-true-false}
 use Rattle.lists.proofs.PickLaws.{pick-both}
 use Rattle.cause.specs.declared.Cause.the-variants.{TooLong, InvalidState}
@@ -18,7 +19,7 @@ use Rattle.record.specs.declared.number.Number.{Number}
 use Rattle.record.specs.declared.number.Number.the-variants.{Broken, Value}
 use Rattle.ledger.specs.Log.{Setting, wrong, set-up, settingOf, Next, over, onward, verdictBy, logVerdict}
 use Rattle.ledger.specs.Stream.{most, whole, settled, ready, closing, stoppedAt, stepped, readFrom, started, startBy, beginning, Running, validState, consuming, verdictFrom, freshReader}
-use Rattle.ledger.specs.Cutting.{told, joinAll, run}
+use Rattle.ledger.specs.Cutting.{told, run}
 use Rattle.ledger.specs.declared.ledger.Ledger.{Ledger}
 use Rattle.ledger.specs.declared.log.LogVerdict.{LogVerdict}
 use Rattle.ledger.specs.declared.log.LogVerdict.the-variants.{Accepted, Refused}

@@ -16,11 +16,6 @@ abbrev pub told : Outcome → LogVerdict → LogVerdict
 told More v = v
 told (Over w) v = w
 
--- the parts of a log, one behind the other
-abbrev pub joinAll : List (List ℕ) → List ℕ
-joinAll [] = []
-joinAll (p ∷ ps) = p ++ joinAll ps
-
 -- the verdict of the calls, from a state and the bytes left over
 unfoldable pub run : LogReader → List ℕ → List (List ℕ) → LogVerdict
 run s rest [] = told (consuming s rest true .outcome) (Accepted 0)

@@ -97,6 +97,10 @@ put-mid a k x c d h ek ed =
     let e : d ≡ put 0 x (drop a c) = rw t at ed in
     rw (n, append-nil d, e) (put-part a x c h)
 
+-- what comes back of a lent `&mut c[a..a + k]` that became d
+pub put-middle : (a k : ℕ) (c d : List ℕ) → length d ≡ k → putMid a k c d ≡ put a d c
+put-middle a k c d e = ap (λ (r : List ℕ). take a c ++ (d ++ r)) (drop-drop k a c ∙ ap (λ (n : ℕ). drop (a + n) c) (sym e))
+
 -- zeros behind
 pub length-pad : (n : ℕ) (x : List ℕ) → length x ≤ n → length (pad n x) ≡ n
 length-pad n x h = simp (length-append, length-replicate) (omega arith)

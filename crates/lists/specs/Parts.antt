@@ -1,4 +1,4 @@
--- Parts of a list of bytes: a part taken, a part put in place, zeros behind, and the test that all bytes are zero.
+-- Parts of a list of bytes: a part taken, a part put in place, zeros behind, parts joined, and the test that all bytes are zero.
 use Prim.Native.Nat.{ℕ, _+_, _-_, _<_}
 use mathlib.Core.Bool.{Bool, true, _&&_}
 use mathlib.Core.List.{List, [], _∷_, _++_}
@@ -16,6 +16,11 @@ put s x l = take s l ++ (x ++ drop (s + length x) l)
 -- x with zeros behind it, n bytes in all
 abbrev pub pad : ℕ → List ℕ → List ℕ
 pad n x = x ++ replicate (n - length x) 0
+
+-- lists one behind the other
+abbrev pub joinAll : List (List ℕ) → List ℕ
+joinAll [] = []
+joinAll (p ∷ ps) = p ++ joinAll ps
 
 -- all bytes are zero
 abbrev pub zeros : List ℕ → Bool

@@ -1,2 +1,4 @@
+pub mod Containers
 pub mod Fills
-pub mod Verdicts
+pub mod Outputs
+pub mod Refills

@@ -187,7 +187,7 @@ module _ (f : ℕ) (n : Grant) (m t l : List ℕ) (ms : List (List ℕ)) (small 
       rw (lt-ltb f 2 small, le-leb (length t) 100 (link-most m t link .1), eq-eqb (length t % 20) 0 (link-granules m t link), d)
       (zeros-replicate (100 - length t))
 
-  call-sound : (k : ℕ) → k ≡ 256 → fillFault (writerWith f t) l n k ≡ Sound
+  pub call-sound : (k : ℕ) → k ≡ 256 → fillFault (writerWith f t) l n k ≡ Sound
   unfolding fillFault callChecks
   call-sound k e =
       rw (pass-sound (callChecks (writerWith f t) (length l) n k)
@@ -254,7 +254,7 @@ progress f n quiet s w l c u w′ k h some =
 -- ---- a writer along a list
 
 -- what is left of a list, seen from what was left before
-left-here : (l : List ℕ) (at : ℕ) (ms : List (List ℕ)) → Left l at ms → Left (drop at l) 0 ms
+pub left-here : (l : List ℕ) (at : ℕ) (ms : List (List ℕ)) → Left l at ms → Left (drop at l) 0 ms
 left-here l at ms h = record { within = omega arith; records = h .records; all = h .all }
 
 left-there : (l : List ℕ) (at u : ℕ) (ms : List (List ℕ)) → at ≤ length l → Left (drop at l) u ms → Left l (at + u) ms
@@ -319,7 +319,7 @@ all-used m t l [] at left e =
     (omega arith, ⊎-elim (λ x. x .0) (λ x. let z = x .1 in absurd (omega arith)) (begun-count m t))
 all-used m t l (x ∷ ms) at left e = absurd (omega arith)
 
-going-none : (f : ℕ) (l : List ℕ) (at : ℕ) (w : Writer) → Going f l 0 at w → (at ≡ length l) × (length (tailOf w) ≡ 0)
+pub going-none : (f : ℕ) (l : List ℕ) (at : ℕ) (w : Writer) → Going f l 0 at w → (at ≡ length l) × (length (tailOf w) ≡ 0)
 going-none f l at w g =
     let a = all-used (g .carry) (g .tail) l (g .rest) at (g .left) (omega (arith, g .few)) in
     (a .0, rw (g .is-writer, tail-of f (g .tail)) (a .1))
@@ -335,7 +335,7 @@ module _ (f : ℕ) (small : f < 2) (l : List ℕ) (hb : IsBytes l) (short : leng
   Fillings cs at w = FillingLeft (writerWith f []) l cs (firstGrants n (length cs)) at w
 
   -- one more fill
-  one-more : (cs : List (List ℕ)) (at : ℕ) (w : Writer) (c : List ℕ) (u : ℕ) (w′ : Writer) → Fillings cs at w → Fills w (drop at l) (n (length cs)) c u w′
+  pub one-more : (cs : List (List ℕ)) (at : ℕ) (w : Writer) (c : List ℕ) (u : ℕ) (w′ : Writer) → Fillings cs at w → Fills w (drop at l) (n (length cs)) c u w′
       → Fillings (cs ++ (c ∷ [])) (at + u) w′
   one-more cs at w c u w′ done h =
       let e : suc (length cs) ≡ length (cs ++ (c ∷ [])) = omega (arith, length-append cs (c ∷ [])) in

@@ -136,7 +136,7 @@ module _ (f : ℕ) (n : Grant) (low : n .rp < 8) (allowed : planeAllowed n ≡ t
   sized : made.Sized fm 0 laid
   sized = made.written-sized fm laid 0 m (ran .written)
 
-  box-length : length box ≡ 256
+  pub box-length : length box ≡ 256
   unfolding filled
   box-length = made.box-length fm (lawful-of f) n laid twelve sized
 

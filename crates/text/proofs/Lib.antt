@@ -1,3 +1,5 @@
 pub mod DecimalLaws
 pub mod WriteLaws
 pub mod LineExamples
+pub mod HexLaws
+pub mod MessageLaws
