@@ -4,9 +4,9 @@ ghost use Prim.Native.Nat.{_-_, min};
 ghost use lib.ListN.{length};
 ghost use Rattle.lists.specs.Parts.{part};
 ghost use Rattle.input.specs.Refills.{answered, AtHand, Refilled};
-use slices::move_front;
 use libc::EINTR;
 use libc::STDIN_FILENO;
+use slices::move_front;
 
 // What a refill comes to.
 pub enum Refill {
