@@ -37,6 +37,9 @@ takes-groups (suc n) (b ∷ l) =
 pub takes-number : (l : List ℕ) → Takes (readNumber l) 5 (length l)
 unfolding readNumber
 takes-number l = takes-groups 5 l
+
+pub number-takes : (l : List ℕ) (v u : ℕ) → readNumber l ≡ Value v u → Takes (Value v u) 5 (length l)
+number-takes l v u e = rw e at (takes-number l)
 
 -- no more than five bytes are looked at
 groups-append : (n : ℕ) (l m : List ℕ) → n ≤ length l → readGroups n (l ++ m) ≡ readGroups n l
