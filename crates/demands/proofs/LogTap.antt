@@ -12,10 +12,10 @@ use Rattle.lists.proofs.Tests.{never-both}
 use Rattle.cause.specs.declared.Cause.{Cause}
 use Rattle.ledger.specs.Audit.{configured, auditing}
 use Rattle.ledger.specs.Log.{receiverAt}
-use Rattle.ledger.specs.Calls.{AllAccepted, behind}
+use Rattle.ledger.specs.Calls.{AllAccepted, behind, Enters, entryOf}
 use Rattle.ledger.specs.Calls as log
-use Rattle.ledger.specs.LogRules.{ConfigurationFault, Enters, entryOf}
-use Rattle.ledger.specs.LogRules.Enters.{none, next}
+use Rattle.ledger.specs.LogRules.{ConfigurationFault}
+use Rattle.ledger.specs.Calls.Enters.{none, next}
 use Rattle.ledger.specs.WholeLog.{BegunLog, RefusedLog}
 use Rattle.pools.specs.declared.receiver.Receiver.{Receiver}
 use Rattle.ledger.specs.declared.ledger.Ledger.{Ledger}

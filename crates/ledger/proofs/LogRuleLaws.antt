@@ -21,9 +21,9 @@ use Rattle.record.specs.declared.number.Number.the-variants.{Broken, Value}
 use Rattle.ledger.specs.Audit.{auditing}
 use Rattle.ledger.specs.Log.{Setting, wrong, set-up, settingOf, over, onward, nextOf, framed, judged, judgedAt}
 use Rattle.ledger.specs.Stream.{most, whole, settled, ready, closing, stoppedAt, stepped, readFrom, started, startBy, beginning, Running, validState, consuming}
-use Rattle.ledger.specs.Calls.{Entry, AllAccepted, behind}
-use Rattle.ledger.specs.LogRules.{entryOf, Enters, Enough, Says, passed, Goes, ValidLog, Consumes}
-use Rattle.ledger.specs.LogRules.Enters.{none, next}
+use Rattle.ledger.specs.Calls.{Entry, AllAccepted, behind, entryOf, Enters}
+use Rattle.ledger.specs.LogRules.{Enough, Says, passed, Goes, ValidLog, Consumes}
+use Rattle.ledger.specs.Calls.Enters.{none, next}
 use Rattle.ledger.specs.LogRules.Says.{accepts, long, broken, cut, refuses, asks}
 use Rattle.ledger.specs.LogRules.ValidLog.{fresh, running}
 use Rattle.ledger.specs.LogRules.Consumes.{invalid, waits, misconfigured, starts, goes-on}

@@ -14,10 +14,10 @@ use Rattle.record.specs.Number.{readNumber}
 use Rattle.ledger.specs.Audit.{auditing}
 use Rattle.ledger.specs.Log.{receiverAt, ledgerOf, logVerdict}
 use Rattle.ledger.specs.Stream.{most, started, stoppedAt, freshReader}
-use Rattle.ledger.specs.Calls.{behind}
-use Rattle.ledger.specs.LogRules.{Numbers, ConfigurationFault, entryOf, Says, passed, Goes, Consumes}
+use Rattle.ledger.specs.Calls.{behind, entryOf}
+use Rattle.ledger.specs.LogRules.{Numbers, ConfigurationFault, Says, passed, Goes, Consumes}
 use Rattle.ledger.specs.LogRules.ConfigurationFault.{broken as number-broken, invalid as number-invalid}
-use Rattle.ledger.specs.LogRules.Enters.{next}
+use Rattle.ledger.specs.Calls.Enters.{next}
 use Rattle.ledger.specs.LogRules.Says.{accepts, long, broken, cut, refuses, asks}
 use Rattle.ledger.specs.LogRules.ValidLog.{fresh}
 use Rattle.ledger.specs.LogRules.Consumes.{invalid, waits, misconfigured, starts, goes-on}

@@ -1,10 +1,10 @@
 -- What a call of the log in parts gives, as rules (document 01, "The log and the host").
-use Prim.Native.Nat.{ℕ, _+_, _*_, _%_, _≤_, _<_}
+use Prim.Native.Nat.{ℕ, _+_, _*_, _≤_, _<_}
 use mathlib.Core.Path.{_≡_}
 use mathlib.Core.Bool.{Bool, true, false}
 use mathlib.Core.List.{List, [], _∷_, _++_}
 use mathlib.Core.Logic.{_⊎_}
-use lib.ListN.{length, take, drop}
+use lib.ListN.{length, drop}
 use Rattle.cause.specs.declared.Cause.{Cause}
 use Rattle.cause.specs.declared.Cause.the-variants.{BrokenRecord, TooLong, InvalidState}
 use Rattle.record.specs.Number.{readNumber}
@@ -13,7 +13,7 @@ use Rattle.pools.specs.PoolRules.{Exists}
 use Rattle.ledger.specs.Audit.{auditing}
 use Rattle.ledger.specs.Log.{receiverAt}
 use Rattle.ledger.specs.Stream.{most, stoppedAt, started}
-use Rattle.ledger.specs.Calls.{Entry, AllAccepted, behind}
+use Rattle.ledger.specs.Calls.{Entry, AllAccepted, behind, entryOf, Enters}
 use Rattle.ledger.specs.ValidLedger.{ValidLedger}
 use Rattle.ledger.specs.declared.ledger.Ledger.{Ledger}
 use Rattle.ledger.specs.declared.ledger.Answer.the-variants as answer
@@ -46,17 +46,7 @@ pub data ConfigurationFault (l : List ℕ) : Cause → ℕ → Type 0 where
   -- 19 | format or configuration not valid | 0
   invalid : (ns : List ℕ) (n v u : ℕ) → Numbers l ns n → length ns < 33 → readNumber (drop n l) ≡ Value v u → (Suits ns v → ⊥) → ConfigurationFault l InvalidState 0
 
--- ---- the entries: "each the number 2·ticks + direction and 256 container bytes"
-
--- the entry at the front of l, whose number is v and has u bytes
-abbrev pub entryOf : List ℕ → ℕ → ℕ → Entry
-entryOf l v u = record { direction = v % 2; container = take 256 (drop u l) }
-
--- l begins with these entries, which end at byte n
-pub data Enters (l : List ℕ) : List Entry → ℕ → Type 0 where
-  none : Enters l [] 0
-  next : {es : List Entry} {n : ℕ} (v u : ℕ) → Enters l es n → readNumber (drop n l) ≡ Value v u → u + 256 ≤ length (drop n l)
-      → Enters l (es ++ (entryOf (drop n l) v u ∷ [])) (n + (u + 256))
+-- ---- the entries
 
 -- what is at the front of l is not cut short by what is yet to come: the log has ended, or there are as many bytes as an entry may have
 abbrev pub Enough : List ℕ → Bool → Type 0

@@ -9,8 +9,8 @@ use Rattle.ledger.specs.Audit.{auditing}
 use Rattle.ledger.specs.ValidLedger.{ValidConfiguration}
 use Rattle.ledger.specs.Log.{receiverAt, ledgerOf}
 use Rattle.ledger.specs.Stream.{most}
-use Rattle.ledger.specs.Calls.{Entry, AllAccepted, behind}
-use Rattle.ledger.specs.LogRules.{Numbers, Enters}
+use Rattle.ledger.specs.Calls.{Entry, AllAccepted, behind, Enters}
+use Rattle.ledger.specs.LogRules.{Numbers}
 use Rattle.ledger.specs.declared.ledger.Answer.the-variants.{Refused}
 
 -- a log begins with a valid configuration and n entries that the audit accepts one after the other

@@ -56,7 +56,7 @@ returns-2 c =
     let at-read = at-number .before .before in
     let start = at-read .before .before in
     let s = start .args .ledger in
-    λ _ e o. idle-entered s e o (start .args .bytes .now) _ _ (sym (at-read .read-number .ensures) ∙ at-number .number .given .1) (c .before .before .before .if1 .left) (start .pre) (long0 start) (long1 start) (long-held start) (long-opened start) (sym (c .before .rests .ensures) ∙ c .if2 .taken)
+    λ _ e o. idle-entered s e o (start .args .bytes .now) _ _ (sym (at-read .read-number .ensures) ∙ at-number .number .given .1) (c .before .before .before .if1 .left) (start .pre) (long0 start) (long1 start) (long-held start) (long-opened start) (sym (c .before .rests .ensures .0) ∙ c .if2 .taken)
 
 returns-3 : tie.Need-returns-3
 returns-3 c = λ some. absurd (some refl)
