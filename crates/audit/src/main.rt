@@ -2,10 +2,10 @@
 ghost use Prim.Native.Nat.{_≤_};
 ghost use lib.ListN.{length};
 use cause::number_cause;
-use ledger::LogReader;
-use ledger::LogVerdict;
-use ledger::Outcome;
 use libc::STDOUT_FILENO;
+use log::LogReader;
+use log::LogVerdict;
+use log::Outcome;
 use slices::move_front;
 
 // Keeps the window's bytes from `from` up to `have`, and puts behind them what one read gives; answers how many there are then.

@@ -6,14 +6,16 @@ use mathlib.Core.List.{List}
 use native.Mathlib.Omega.{arith}
 use lib.ListN.{length, take, drop, length-take, length-drop}
 use Rattle.lists.specs.Parts.{part}
+use Rattle.lists.proofs.PickLaws.{pick-both}
 use Rattle.lists.proofs.PartLaws.{rest-is}
 use Rattle.cause.specs.declared.Cause.{Cause}
+use Rattle.cause.specs.declared.Cause.the-variants.{InvalidState}
 use Rattle.frame.specs.Framing.{framing}
 use Rattle.frame.specs.declared.Framed.{Framed}
 use Rattle.frame.specs.declared.Framed.the-variants.{Broken, Short, Whole}
 use Rattle.frame.proofs.FrameLaws.{whole-entry}
 use Rattle.ledger.specs.Audit.{ledgerOk, auditing}
-use Rattle.ledger.specs.Run.{halted, whenWhole, followed, running}
+use Rattle.ledger.specs.Run.{halted, whenWhole, followed, running, runOver}
 use Rattle.ledger.specs.declared.ledger.Ledger.{Ledger}
 use Rattle.ledger.specs.declared.ledger.Step.{Step}
 use Rattle.ledger.specs.declared.ledger.Answer.{Answer}
@@ -165,6 +167,11 @@ module _ (l : List ℕ) where
   run-bounded (suc k) s n at h =
       subst (Bounded (suc k) n at l) (sym (run-by s n at l k (framing (drop at l)) refl))
       (bounded-frame k s n at (framing (drop at l)) refl h (λ t u fit. run-bounded k t (n + 1) (at + u) fit))
+
+-- a run over entries, from any ledger
+pub over-bounded : (s : Ledger) (most : ℕ) (l : List ℕ) → Bounded most 0 0 l (runOver s most l)
+over-bounded s most l =
+    pick-both (Bounded most 0 0 l) (ledgerOk s) (run-bounded l most s 0 0 (omega arith)) (bounded-stop most s 0 0 l (Refused InvalidState 0) (omega arith))
 
 -- ---- the entry at the front of what is left, as the code takes it
 

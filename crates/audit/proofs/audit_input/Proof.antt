@@ -6,10 +6,10 @@ use mathlib.Core.List.{List}
 use native.Mathlib.Omega.{arith}
 use lib.ListN.{length, take, length-take}
 use borrow.Author.Needs.{needs}
-use Rattle.ledger.specs.Stream.{consuming}
-use Rattle.ledger.specs.declared.log.LogReader.{LogReader}
-use Rattle.ledger.specs.declared.log.Consumed.{Consumed}
-use Rattle.ledger.proofs.CutTheorem.{consume-within}
+use Rattle.log.specs.Stream.{consuming}
+use Rattle.log.specs.declared.log.LogReader.{LogReader}
+use Rattle.log.specs.declared.log.Consumed.{Consumed}
+use Rattle.log.proofs.CutTheorem.{consume-within}
 use Rattle.audit.proofs.audit_input.Statement.{statement}
 use Rattle.audit.proofs.audit_input.Tie as tie
 
