@@ -3,8 +3,8 @@ use Prim.Native.Nat.{_≤_}
 use lib.ListN.{length}
 use Rattle.cause.specs.declared.Verdict.the-variants.{Sound, Faulty}
 use Rattle.text.proofs.WriteLaws.{verdict-most}
-use Rattle.ledger.specs.declared.log.LogVerdict.{LogVerdict}
-use Rattle.ledger.specs.declared.log.LogVerdict.the-variants.{Accepted, Refused}
+use Rattle.log.specs.declared.log.LogVerdict.{LogVerdict}
+use Rattle.log.specs.declared.log.LogVerdict.the-variants.{Accepted, Refused}
 use Rattle.audit.specs.Turns.{logLine}
 
 pub line-most : (v : LogVerdict) → length (logLine v) ≤ 64

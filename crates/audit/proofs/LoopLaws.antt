@@ -8,10 +8,10 @@ use native.Mathlib.Omega.{arith}
 use lib.ListN.{length, take, length-take}
 use Rattle.lists.specs.Parts.{part}
 use Rattle.lists.proofs.PartLaws.{length-part}
-use Rattle.ledger.specs.Stream.{freshReader}
-use Rattle.ledger.specs.declared.log.LogReader.{LogReader}
-use Rattle.ledger.specs.declared.log.LogVerdict.{LogVerdict}
-use Rattle.ledger.proofs.CutTheorem.{consume-within}
+use Rattle.log.specs.Stream.{freshReader}
+use Rattle.log.specs.declared.log.LogReader.{LogReader}
+use Rattle.log.specs.declared.log.LogVerdict.{LogVerdict}
+use Rattle.log.proofs.CutTheorem.{consume-within}
 use Rattle.audit.specs.Turns.{Turned, Taken, Turns, none, more, Judged}
 use Rattle.audit.specs.declared.Progress.the-variants.{On, Over, Failed}
 use Rattle.audit.specs.declared.Turn.{Turn}

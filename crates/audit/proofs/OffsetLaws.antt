@@ -10,14 +10,14 @@ use lib.Dec.{leb}
 use Rattle.lists.specs.Pick.{pick}
 use Rattle.lists.proofs.PickLaws.{pick-both}
 use Rattle.lists.proofs.Tests.{cases}
-use Rattle.ledger.specs.Log.{Setting, wrong, set-up, settingOf, Next, over, onward}
-use Rattle.ledger.specs.Stream.{most, ready, stepped, readFrom, started, startBy, Running, consuming}
+use Rattle.log.specs.Log.{Setting, wrong, set-up, settingOf, Next, over, onward}
+use Rattle.log.specs.Stream.{most, ready, stepped, readFrom, started, startBy, Running, consuming}
 use Rattle.ledger.specs.declared.ledger.Ledger.{Ledger}
-use Rattle.ledger.specs.declared.log.LogReader.{LogReader}
-use Rattle.ledger.specs.declared.log.Consumed.{Consumed}
-use Rattle.ledger.proofs.LogSteps.{nextAt, read-stop, read-over, read-on}
-use Rattle.ledger.proofs.LogCalls.{started-runs, call-bad, call-start, call-running}
-use Rattle.ledger.proofs.CutTheorem.{read-kept, State, bad, new, runs, state-of, all-left, full-stop}
+use Rattle.log.specs.declared.log.LogReader.{LogReader}
+use Rattle.log.specs.declared.log.Consumed.{Consumed}
+use Rattle.log.proofs.LogSteps.{nextAt, read-stop, read-over, read-on}
+use Rattle.log.proofs.LogCalls.{started-runs, call-bad, call-start, call-running}
+use Rattle.log.proofs.CutTheorem.{read-kept, State, bad, new, runs, state-of, all-left, full-stop}
 
 -- the bytes of the longest log
 abbrev pub mostBytes : ℕ

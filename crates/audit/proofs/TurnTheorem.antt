@@ -10,14 +10,14 @@ use lib.Seq.{drop-append-le, take-at}
 use lib.Dec.{eqb}
 use borrow.Author.Tests.{eqb-true, eqb-false, ne-eqb, eq-eqb}
 use Rattle.lists.proofs.Tests.{cases}
-use Rattle.ledger.specs.Log.{logVerdict}
-use Rattle.ledger.specs.Stream.{most, consuming, verdictFrom}
-use Rattle.ledger.specs.Cutting.{told}
-use Rattle.ledger.specs.declared.log.LogReader.{LogReader}
-use Rattle.ledger.specs.declared.log.LogVerdict.{LogVerdict}
-use Rattle.ledger.specs.declared.log.Outcome.{Outcome}
-use Rattle.ledger.specs.declared.log.Outcome.the-variants as outcome
-use Rattle.ledger.proofs.CutTheorem.{consume-ended, consume-cut, consume-within, consume-short, fresh-verdict}
+use Rattle.log.specs.Log.{logVerdict}
+use Rattle.log.specs.Stream.{most, consuming, verdictFrom}
+use Rattle.log.specs.Cutting.{told}
+use Rattle.log.specs.declared.log.LogReader.{LogReader}
+use Rattle.log.specs.declared.log.LogVerdict.{LogVerdict}
+use Rattle.log.specs.declared.log.Outcome.{Outcome}
+use Rattle.log.specs.declared.log.Outcome.the-variants as outcome
+use Rattle.log.proofs.CutTheorem.{consume-ended, consume-cut, consume-within, consume-short, fresh-verdict}
 use Rattle.audit.specs.Turns.{progressBy, turnBy, leftBy, Turned, Turns, none, more, Judged}
 use Rattle.audit.specs.declared.Progress.the-variants.{On, Over}
 use Rattle.audit.specs.declared.Turn.{Turn}

@@ -10,8 +10,8 @@ use lib.Dec.{eqb}
 use borrow.Author.Tests.{ne-eqb}
 use Rattle.input.specs.Refills.{Refilled}
 use Rattle.input.specs.declared.Refill.the-variants.{Got, End}
-use Rattle.ledger.specs.Stream.{consuming}
-use Rattle.ledger.specs.declared.log.LogReader.{LogReader}
+use Rattle.log.specs.Stream.{consuming}
+use Rattle.log.specs.declared.log.LogReader.{LogReader}
 use Rattle.audit.specs.Turns.{turnBy, Turned}
 use Rattle.audit.specs.declared.Turn.{Turn}
 

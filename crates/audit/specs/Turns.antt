@@ -8,13 +8,13 @@ use lib.Dec.{eqb}
 use Rattle.lists.specs.Parts.{part}
 use Rattle.cause.specs.declared.Verdict.the-variants.{Sound, Faulty}
 use Rattle.text.specs.Lines.{verdictLine}
-use Rattle.ledger.specs.Stream.{consuming, freshReader}
-use Rattle.ledger.specs.declared.log.LogReader.{LogReader}
-use Rattle.ledger.specs.declared.log.LogVerdict.{LogVerdict}
-use Rattle.ledger.specs.declared.log.LogVerdict.the-variants.{Accepted, Refused}
-use Rattle.ledger.specs.declared.log.Consumed.{Consumed}
-use Rattle.ledger.specs.declared.log.Outcome.{Outcome}
-use Rattle.ledger.specs.declared.log.Outcome.the-variants as outcome
+use Rattle.log.specs.Stream.{consuming, freshReader}
+use Rattle.log.specs.declared.log.LogReader.{LogReader}
+use Rattle.log.specs.declared.log.LogVerdict.{LogVerdict}
+use Rattle.log.specs.declared.log.LogVerdict.the-variants.{Accepted, Refused}
+use Rattle.log.specs.declared.log.Consumed.{Consumed}
+use Rattle.log.specs.declared.log.Outcome.{Outcome}
+use Rattle.log.specs.declared.log.Outcome.the-variants as outcome
 use Rattle.audit.specs.declared.Progress.{Progress}
 use Rattle.audit.specs.declared.Progress.the-variants.{On, Over, Failed}
 use Rattle.audit.specs.declared.Turn.{Turn}

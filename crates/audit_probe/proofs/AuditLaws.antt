@@ -21,7 +21,7 @@ use Rattle.ledger.specs.declared.ledger.Answer.the-variants.{Refused}
 use Rattle.ledger.specs.declared.ledger.Reported.{Reported}
 use Rattle.ledger.specs.declared.ledger.Reported.the-variants as report
 use Rattle.ledger.specs.declared.entries.Run.{Run}
-use Rattle.ledger.proofs.SettingValid.{fresh-valid}
+use Rattle.ledger.proofs.FreshLaws.{fresh-valid}
 use Rattle.audit_probe.specs.Audit.{receiverFrom, numbersOk, openingFrom, runBy, runFrom, reportBy, reportFrom}
 
 -- a run from a valid ledger goes over its entries

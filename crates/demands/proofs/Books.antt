@@ -26,8 +26,8 @@ use Rattle.pools.specs.declared.kinds.Slots.{Slots}
 use Rattle.ledger.specs.declared.ledger.Reported.the-variants.{Counted}
 use Rattle.ledger.proofs.ValidLaws.{ValidDirection, ledger-valid, valid-ledger}
 use Rattle.ledger.proofs.AcceptedLaws.{Accepted, accepted-by, accepted-sound, held-own, held-other, open-own, open-other, reader-own, reader-other, receivers-kept, next-ledger-valid}
-use Rattle.ledger.proofs.SettingValid.{fresh-valid}
-use Rattle.ledger.proofs.LogStates.{audit-keeps}
+use Rattle.ledger.proofs.FreshLaws.{fresh-valid}
+use Rattle.ledger.proofs.AnswerLaws.{audit-keeps}
 use Rattle.history.specs.Link.{Direction, direction0, direction1, numberOf, directionOf, opposite, sameDirection, Link}
 use Rattle.history.specs.Audit.{fitsBelow, equalBelow, directionOk, creditsPaid, slotsTaken, entryOk, enter, auditEntry, linkAuditor}
 use Rattle.history.specs.Audit as link

@@ -2,7 +2,7 @@
 use mathlib.Core.Path.{refl}
 use Rattle.reader.specs.Reading.{records}
 use Rattle.ledger.proofs.RunRuleLaws.{run-follows, run-only}
-use Rattle.ledger.proofs.LogRuleLaws.{consume-follows, consume-only}
+use Rattle.log.proofs.LogRuleLaws.{consume-follows, consume-only}
 use Rattle.feeder.proofs.RuleLaws.{follows, only}
 use Rattle.history.proofs.DelayLaws.{delays}
 use Rattle.demands.specs.Tap.{linkOf}

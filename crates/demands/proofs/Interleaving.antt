@@ -9,12 +9,12 @@ use Rattle.cause.specs.declared.Verdict.{Verdict}
 use Rattle.cause.specs.declared.Verdict.the-variants.{Sound, Faulty}
 use Rattle.reader.specs.declared.reader.Reader.{Reader}
 use Rattle.ledger.specs.Audit.{receiverOf, readerOf, heldOf, openOf, ledgerOk, configured, auditChecks, nextLedger, auditing, heldAfter, openAfter, reported}
-use Rattle.ledger.specs.Log.{receiverAt, ledgerOf}
+use Rattle.log.specs.Log.{receiverAt, ledgerOf}
 use Rattle.ledger.specs.Calls.{behind}
-use Rattle.ledger.specs.WholeLog.{AcceptedLog}
+use Rattle.log.specs.WholeLog.{AcceptedLog}
 use Rattle.pools.specs.declared.receiver.Receiver.{Receiver}
 use Rattle.ledger.specs.declared.ledger.Ledger.{Ledger}
-use Rattle.ledger.proofs.SettingValid.{fresh-valid}
+use Rattle.ledger.proofs.FreshLaws.{fresh-valid}
 use Rattle.ledger.proofs.CallLaws.{behind-valid}
 use Rattle.ledger.proofs.TableSelf.{length-table, table-equal}
 use Rattle.history.specs.Trace.{Trace, start, _▷_}

@@ -11,17 +11,17 @@ use lib.ListN.{getD, drop}
 use Rattle.lists.proofs.Tests.{never-both}
 use Rattle.cause.specs.declared.Cause.{Cause}
 use Rattle.ledger.specs.Audit.{configured, auditing}
-use Rattle.ledger.specs.Log.{receiverAt}
-use Rattle.ledger.specs.Calls.{AllAccepted, behind}
+use Rattle.log.specs.Log.{receiverAt}
+use Rattle.ledger.specs.Calls.{AllAccepted, behind, Enters, entryOf}
 use Rattle.ledger.specs.Calls as log
-use Rattle.ledger.specs.LogRules.{ConfigurationFault, Enters, entryOf}
-use Rattle.ledger.specs.LogRules.Enters.{none, next}
-use Rattle.ledger.specs.WholeLog.{BegunLog, RefusedLog}
+use Rattle.log.specs.LogRules.{ConfigurationFault}
+use Rattle.ledger.specs.Calls.Enters.{none, next}
+use Rattle.log.specs.WholeLog.{BegunLog, RefusedLog}
 use Rattle.pools.specs.declared.receiver.Receiver.{Receiver}
 use Rattle.ledger.specs.declared.ledger.Ledger.{Ledger}
 use Rattle.ledger.specs.declared.ledger.Answer.the-variants.{Refused}
 use Rattle.ledger.proofs.ValidLedgerLaws.{configured-exactly}
-use Rattle.ledger.proofs.WholeLogLaws.{accepted-only, begun-before, refused-only}
+use Rattle.log.proofs.WholeLogLaws.{accepted-only, begun-before, refused-only}
 use Rattle.history.specs.Trace.{Trace, start, _▷_, whole}
 use Rattle.history.specs.Link.{Direction, directionOf, Link}
 use Rattle.history.specs.History.{Entry, Tapped}

@@ -21,13 +21,13 @@ use Rattle.reader.specs.declared.reader.Judgement.the-variants as judge
 use Rattle.ledger.specs.Audit.{heldOf, openOf, opening, auditing, reported}
 use Rattle.ledger.specs.Run.{runOver}
 use Rattle.ledger.specs.RunRules.{RunRule}
-use Rattle.ledger.specs.Stream.{consuming}
-use Rattle.ledger.specs.LogRules.{Consumes}
+use Rattle.log.specs.Stream.{consuming}
+use Rattle.log.specs.LogRules.{Consumes}
 use Rattle.pools.specs.declared.receiver.Receiver.{Receiver}
 use Rattle.ledger.specs.declared.ledger.Reported.the-variants as report
 use Rattle.ledger.specs.declared.entries.Run.{Run}
-use Rattle.ledger.specs.declared.log.LogReader.{LogReader}
-use Rattle.ledger.specs.declared.log.Consumed.{Consumed}
+use Rattle.log.specs.declared.log.LogReader.{LogReader}
+use Rattle.log.specs.declared.log.Consumed.{Consumed}
 use Rattle.ledger.specs.declared.ledger.Ledger.{Ledger}
 use Rattle.ledger.specs.declared.ledger.Answer.the-variants as audit
 use Rattle.writer.specs.Laying.{usedOf}

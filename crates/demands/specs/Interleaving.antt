@@ -5,10 +5,10 @@ use mathlib.Core.Bool.{true}
 use mathlib.Core.List.{List, [], _∷_}
 use Rattle.cause.specs.declared.Cause.the-variants.{BegunOverGranted}
 use Rattle.ledger.specs.Audit.{configured, auditing, freshLedger, reported}
-use Rattle.ledger.specs.Log.{ledgerOf}
+use Rattle.log.specs.Log.{ledgerOf}
 use Rattle.ledger.specs.Calls.{AllAccepted, behind}
 use Rattle.ledger.specs.Calls as log
-use Rattle.ledger.specs.WholeLog.{AcceptedLog}
+use Rattle.log.specs.WholeLog.{AcceptedLog}
 use Rattle.pools.specs.declared.receiver.Receiver.{Receiver}
 use Rattle.ledger.specs.declared.ledger.Ledger.{Ledger}
 use Rattle.ledger.specs.declared.ledger.Answer.the-variants.{Refused}

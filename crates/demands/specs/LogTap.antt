@@ -5,12 +5,12 @@ use mathlib.Core.List.{List, [], _∷_}
 use mathlib.Core.Logic.{_⊎_}
 use lib.ListN.{getD}
 use Rattle.cause.specs.declared.Cause.{Cause}
-use Rattle.ledger.specs.Log.{receiverAt, logVerdict}
-use Rattle.ledger.specs.Stream.{most}
-use Rattle.ledger.specs.declared.log.LogVerdict.the-variants as verdict
+use Rattle.log.specs.Log.{receiverAt, logVerdict}
+use Rattle.log.specs.Stream.{most}
+use Rattle.log.specs.declared.log.LogVerdict.the-variants as verdict
 use Rattle.ledger.specs.Calls as log
-use Rattle.ledger.specs.LogRules.{ConfigurationFault}
-use Rattle.ledger.specs.WholeLog.{BegunLog, AcceptedLog, RefusedLog, Framing}
+use Rattle.log.specs.LogRules.{ConfigurationFault}
+use Rattle.log.specs.WholeLog.{BegunLog, AcceptedLog, RefusedLog, Framing}
 use Rattle.history.specs.Trace.{Trace, start}
 use Rattle.history.specs.Link.{Link, directionOf}
 use Rattle.history.specs.History.{Entry, Tapped}

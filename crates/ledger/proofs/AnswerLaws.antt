@@ -33,3 +33,14 @@ module _ (s : Ledger) (d : ℕ) (c : List ℕ) where
   pub refused-same : (k : Cause) (p : ℕ) → auditing s d c .answer ≡ Refused k p → auditing s d c .ledger ≡ s
   unfolding auditing
   refused-same k p e = ap (λ (v : Verdict). whenSound v (nextLedger s d c) s) (refused-verdict (firstFault (auditChecks s d c)) k p e)
+
+-- the ledger behind a verdict on the checks
+kept-by : (s : Ledger) (d : ℕ) (c : List ℕ) (v : Verdict) → firstFault (auditChecks s d c) ≡ v → ledgerOk s ≡ true
+    → ledgerOk (whenSound v (nextLedger s d c) s) ≡ true
+kept-by s d c Sound e h = next-ledger-valid s d c (accepted-by s d c e)
+kept-by s d c (Faulty k p) e h = h
+
+-- an audit leaves a valid ledger, whether it accepts or refuses
+pub audit-keeps : (s : Ledger) (d : ℕ) (c : List ℕ) → ledgerOk s ≡ true → ledgerOk (auditing s d c .ledger) ≡ true
+unfolding auditing
+audit-keeps s d c h = kept-by s d c (firstFault (auditChecks s d c)) refl h

@@ -6,7 +6,7 @@ use Rattle.ledger.specs.Audit.{ledgerOk, auditing}
 use Rattle.ledger.specs.Calls.{Entry, AllAccepted, behind}
 use Rattle.ledger.specs.declared.ledger.Ledger.{Ledger}
 use Rattle.ledger.specs.declared.ledger.Answer.the-variants.{Accepted}
-use Rattle.ledger.proofs.LogStates.{audit-keeps}
+use Rattle.ledger.proofs.AnswerLaws.{audit-keeps}
 
 abbrev next : Ledger → Entry → Ledger
 next s e = auditing s (e .direction) (e .container) .ledger

@@ -4,6 +4,7 @@ pub mod HeadSums
 pub mod CarriedLaws
 pub mod ValidLaws
 pub mod ValidLedgerLaws
+pub mod FreshLaws
 pub mod AcceptedLaws
 pub mod SettleLaws
 pub mod IdleLaws
@@ -14,19 +15,6 @@ pub mod AnswerLaws
 pub mod RunLaws
 pub mod CallLaws
 pub mod RunRuleLaws
-pub mod NumberTakes
-pub mod SettingLaws
-pub mod LogSteps
-pub mod LogStates
-pub mod LogLoops
-pub mod SettingValid
-pub mod LogCalls
-pub mod CutTheorem
-pub mod AgainTheorem
-pub mod NumberRuleLaws
-pub mod LogRuleLaws
-pub mod WholeLogLaws
-pub mod MarkedLogs
 pub mod EntryFaults
 pub mod AuditFaults
 pub mod AuditTable

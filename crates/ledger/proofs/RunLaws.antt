@@ -1,109 +1,185 @@
 -- Entries audited one after the other, step by step. Assumes nothing.
 use Prim.Native.Nat.{ℕ, zero, suc, _+_, _-_, _*_, _≤_, _<_}
-use mathlib.Core.Path.{_≡_, refl, sym, ap, _∙_}
+use mathlib.Core.Path.{_≡_, refl, sym, ap, subst, _∙_}
 use mathlib.Core.Bool.{true}
 use mathlib.Core.List.{List}
 use native.Mathlib.Omega.{arith}
-use lib.ListN.{length, getD, take, drop, length-take, length-drop}
-use borrow.Author.Tests.{le-leb, lt-leb, le-ltb}
+use lib.ListN.{length, take, drop, length-take, length-drop}
+use Rattle.lists.specs.Parts.{part}
+use Rattle.lists.proofs.PickLaws.{pick-both}
+use Rattle.lists.proofs.PartLaws.{rest-is}
 use Rattle.cause.specs.declared.Cause.{Cause}
-use Rattle.cause.specs.declared.Cause.the-variants.{BrokenRecord, InvalidState}
-use Rattle.ledger.specs.Audit.{ledgerOk, auditing, auditChecks}
-use Rattle.ledger.specs.Run.{directionAt, containerAt, running}
+use Rattle.cause.specs.declared.Cause.the-variants.{InvalidState}
+use Rattle.frame.specs.Framing.{framing}
+use Rattle.frame.specs.declared.Framed.{Framed}
+use Rattle.frame.specs.declared.Framed.the-variants.{Broken, Short, Whole}
+use Rattle.frame.proofs.FrameLaws.{whole-entry}
+use Rattle.ledger.specs.Audit.{ledgerOk, auditing}
+use Rattle.ledger.specs.Run.{halted, whenWhole, followed, running, runOver}
 use Rattle.ledger.specs.declared.ledger.Ledger.{Ledger}
 use Rattle.ledger.specs.declared.ledger.Step.{Step}
+use Rattle.ledger.specs.declared.ledger.Answer.{Answer}
 use Rattle.ledger.specs.declared.ledger.Answer.the-variants.{Accepted, Refused}
 use Rattle.ledger.specs.declared.entries.Run.{Run}
-use Rattle.ledger.proofs.AnswerLaws.{refused-same, accepted-valid}
+use Rattle.ledger.proofs.AnswerLaws.{accepted-valid}
 
--- an entry of no direction is refused by 19
-pub no-direction : (s : Ledger) (d : ℕ) (c : List ℕ) → 2 ≤ d → _≡_ {A = Step} (record { ledger = s; answer = Refused InvalidState 0 }) (auditing s d c)
-unfolding auditing auditChecks
-no-direction s d c h = rw (le-ltb d 2 h)
+-- ---- one entry
 
-module _ (s : Ledger) (n : ℕ) (l : List ℕ) where
-  -- no entry is left
-  pub run-ends : (k : ℕ) → length l ≤ 257 * n → _≡_ {A = Run} (record { ledger = s; accepted = n; answer = Accepted }) (running k s n l)
+-- the audit of the entry of direction d whose container begins u bytes behind `at`
+abbrev pub stepAt : Ledger → ℕ → List ℕ → ℕ → ℕ → Step
+stepAt s at l d u = auditing s d (part (at + u) 256 l)
+
+module _ (s : Ledger) (n at : ℕ) (l : List ℕ) where
+  abbrev step : ℕ → ℕ → Step
+  step d u = stepAt s at l d u
+
+  -- a whole entry, and what may follow
+  abbrev onward : ℕ → ℕ → ℕ → Run
+  onward k d u = followed (step d u .answer) s n at (running k (step d u .ledger) (n + 1) (at + (u + 256)) l)
+
+  run-by : (k : ℕ) (f : Framed) → framing (drop at l) ≡ f → running (suc k) s n at l ≡ whenWhole f (halted s n at Accepted) (onward k)
   unfolding running
-  run-ends zero h = refl
-  run-ends (suc k) h = rw (le-leb (length l) (257 * n) h)
+  run-by k f e = ap (λ (x : Framed). whenWhole x (halted s n at Accepted) (onward k)) e
 
-  -- the next entry is cut short
-  pub run-cut : (k : ℕ) → 257 * n < length l → length l < 257 * n + 257
-      → _≡_ {A = Run} (record { ledger = s; accepted = n; answer = Refused BrokenRecord (257 * n) }) (running (suc k) s n l)
+  -- no more entries may be
+  pub run-full : running zero s n at l ≡ halted s n at Accepted
   unfolding running
-  run-cut k g h = rw (lt-leb (length l) (257 * n) g, lt-leb (257 * n + 257) (length l) h)
+  run-full = refl
 
-  module _ (k : ℕ) (h : 257 * n + 257 ≤ length l) where
-    abbrev step : Step
-    step = auditing s (directionAt l n) (containerAt l n)
+  -- no whole entry is left
+  none-by : (k : ℕ) (f : Framed) → framing (drop at l) ≡ f → ((v d u : ℕ) → f ≡ Whole v d u → ⊥) → running (suc k) s n at l ≡ halted s n at Accepted
+  none-by k Broken e h = run-by k Broken e
+  none-by k Short e h = run-by k Short e
+  none-by k (Whole v d u) e h = absurd (h v d u refl)
+
+  pub run-none : (k : ℕ) → ((v d u : ℕ) → framing (drop at l) ≡ Whole v d u → ⊥) → running k s n at l ≡ halted s n at Accepted
+  run-none zero h = run-full
+  run-none (suc k) h = none-by k (framing (drop at l)) refl h
+
+  module _ (k v d u : ℕ) (e : framing (drop at l) ≡ Whole v d u) where
+    run-whole : (a : Answer) → step d u .answer ≡ a → running (suc k) s n at l ≡ followed a s n at (running k (step d u .ledger) (n + 1) (at + (u + 256)) l)
+    run-whole a q = run-by k (Whole v d u) e ∙ ap (λ (x : Answer). followed x s n at (running k (step d u .ledger) (n + 1) (at + (u + 256)) l)) q
 
     -- the next entry is refused
-    pub run-refused : (c : Cause) (p : ℕ) → step .answer ≡ Refused c p → _≡_ {A = Run} (record { ledger = s; accepted = n; answer = Refused c p }) (running (suc k) s n l)
-    unfolding running
-    run-refused c p e =
-        rw (lt-leb (length l) (257 * n) (omega arith), le-leb (257 * n + 257) (length l) h, e, refused-same s (directionAt l n) (containerAt l n) c p e)
+    pub run-refused : (c : Cause) (p : ℕ) → step d u .answer ≡ Refused c p → running (suc k) s n at l ≡ halted s n at (Refused c p)
+    run-refused c p q = run-whole (Refused c p) q
 
     -- the next entry is accepted
-    pub run-goes-on : step .answer ≡ Accepted → running k (step .ledger) (n + 1) l ≡ running (suc k) s n l
-    unfolding running
-    run-goes-on e = rw (lt-leb (length l) (257 * n) (omega arith), le-leb (257 * n + 257) (length l) h, e)
+    pub run-goes-on : step d u .answer ≡ Accepted → running (suc k) s n at l ≡ running k (step d u .ledger) (n + 1) (at + (u + 256)) l
+    run-goes-on q = run-whole Accepted q
 
--- the entries so far: n of them were accepted, and what is left gives the whole
-pub record Running (first : Ledger) (l : List ℕ) (s : Ledger) (n at : ℕ) : Type 0 where
-  pub place : at ≡ 257 * n
+-- ---- the entries so far
+
+-- n of them were accepted, up to byte `at`, and what is left gives the whole
+pub record Running (first : Ledger) (most : ℕ) (l : List ℕ) (s : Ledger) (n at : ℕ) : Type 0 where
+  pub few : n ≤ most
   pub inside : at ≤ length l
-  pub rest : running (length l - n) s n l ≡ running (length l) first 0 l
+  pub kept : ledgerOk s ≡ true
+  pub rest : running (most - n) s n at l ≡ running most first 0 0 l
 
-pub running-none : (s : Ledger) (l : List ℕ) → Running s l s 0 0
-running-none s l = record { place = omega arith; inside = omega arith; rest = ap (λ (k : ℕ). running k s 0 l) (omega arith) }
+pub running-none : (s : Ledger) (most : ℕ) (l : List ℕ) → ledgerOk s ≡ true → Running s most l s 0 0
+running-none s most l h =
+    record { few = omega arith; inside = omega arith; kept = h; rest = ap (λ (k : ℕ). running k s 0 0 l) (omega arith) }
 
-module _ (first : Ledger) (l : List ℕ) (s : Ledger) (n at : ℕ) (r : Running first l s n at) where
-  more : at < length l → length l - n ≡ suc (length l - (n + 1))
-  more h = let p = r .place in omega arith
+module _ (first : Ledger) (most : ℕ) (l : List ℕ) (s : Ledger) (n at : ℕ) (r : Running first most l s n at) where
+  -- there are as many as may be
+  pub running-full : most ≤ n → halted s n at Accepted ≡ running most first 0 0 l
+  running-full h =
+      let none : most - n ≡ 0 = omega arith in
+      sym (run-full s n at l) ∙ ap (λ (k : ℕ). running k s n at l) (sym none) ∙ r .rest
 
-  room : at + 257 ≤ length l → 257 * n + 257 ≤ length l
-  room h = let p = r .place in omega arith
+  -- no whole entry is left
+  pub running-ends : ((v d u : ℕ) → framing (drop at l) ≡ Whole v d u → ⊥) → halted s n at Accepted ≡ running most first 0 0 l
+  running-ends h = sym (run-none s n at l (most - n) h) ∙ r .rest
 
-  pub running-ends : length l ≤ at → _≡_ {A = Run} (record { ledger = s; accepted = n; answer = Accepted }) (running (length l) first 0 l)
-  running-ends h = let p = r .place in run-ends s n l (length l - n) (omega arith) ∙ r .rest
+  module _ (more : n < most) (v d u : ℕ) (e : framing (drop at l) ≡ Whole v d u) where
+    one-left : suc (most - (n + 1)) ≡ most - n
+    one-left = omega arith
 
-  abbrev cutAt : ℕ → Run
-  cutAt i = record { ledger = s; accepted = n; answer = Refused BrokenRecord i }
+    -- the bytes of the next entry
+    pub entry-within : (u ≤ 5) × (at + u + 256 ≤ length l)
+    entry-within = let w = whole-entry (drop at l) v d u e in let i = r .inside in (w .few, omega (arith, w .within, length-drop at l))
 
-  pub running-cut : at < length l → length l < at + 257
-      → _≡_ {A = Run} (record { ledger = s; accepted = n; answer = Refused BrokenRecord at }) (running (length l) first 0 l)
-  running-cut g h =
-      let p = r .place in
-      ap (λ (i : ℕ). cutAt i) p
-      ∙ run-cut s n l (length l - (n + 1)) (omega arith) (omega arith) ∙ ap (λ (k : ℕ). running k s n l) (sym (more g)) ∙ r .rest
+    pub entry-direction : d < 2
+    entry-direction = let w = whole-entry (drop at l) v d u e .direction in omega arith
 
-  module _ (h : at + 257 ≤ length l) (t : Step) (e : t ≡ auditing s (directionAt l n) (containerAt l n)) where
-    pub running-refused : (c : Cause) (p : ℕ) → t .answer ≡ Refused c p → _≡_ {A = Run} (record { ledger = s; accepted = n; answer = Refused c p }) (running (length l) first 0 l)
-    running-refused c p q =
-        run-refused s n l (length l - (n + 1)) (room h) c p (sym (ap (λ (x : Step). x .answer) e) ∙ q)
-        ∙ ap (λ (k : ℕ). running k s n l) (sym (more (omega arith))) ∙ r .rest
+    module _ (t : Step) (q : t ≡ stepAt s at l d u) where
+      answered : (a : Answer) → t .answer ≡ a → stepAt s at l d u .answer ≡ a
+      answered a h = sym (ap (λ (x : Step). x .answer) q) ∙ h
 
-    pub running-more : t .answer ≡ Accepted → Running first l (t .ledger) (n + 1) (at + 257)
-    running-more q =
-        let a = sym (ap (λ (x : Step). x .answer) e) ∙ q in
-        record {
-          place = let p = r .place in omega arith;
-          inside = h;
-          rest = ap (λ (x : Step). running (length l - (n + 1)) (x .ledger) (n + 1) l) e
-              ∙ run-goes-on s n l (length l - (n + 1)) (room h) a ∙ ap (λ (k : ℕ). running k s n l) (sym (more (omega arith))) ∙ r .rest;
-        }
+      pub running-refused : (c : Cause) (p : ℕ) → t .answer ≡ Refused c p → halted s n at (Refused c p) ≡ running most first 0 0 l
+      running-refused c p h =
+          sym (run-refused s n at l (most - (n + 1)) v d u e c p (answered (Refused c p) h)) ∙ ap (λ (k : ℕ). running k s n at l) one-left ∙ r .rest
 
-    -- an accepted entry leaves a valid ledger
-    pub running-valid : t .answer ≡ Accepted → ledgerOk (t .ledger) ≡ true
-    running-valid q =
-        ap (λ (x : Step). ledgerOk (x .ledger)) e
-        ∙ accepted-valid s (directionAt l n) (containerAt l n) (sym (ap (λ (x : Step). x .answer) e) ∙ q)
+      pub running-more : t .answer ≡ Accepted → Running first most l (t .ledger) (n + 1) (at + (u + 256))
+      running-more h =
+          let a = answered Accepted h in
+          let w = entry-within .1 in
+          record {
+            few = omega arith;
+            inside = omega arith;
+            kept = ap (λ (x : Step). ledgerOk (x .ledger)) q ∙ accepted-valid s d (part (at + u) 256 l) a;
+            rest = ap (λ (x : Step). running (most - (n + 1)) (x .ledger) (n + 1) (at + (u + 256)) l) q
+                ∙ sym (run-goes-on s n at l (most - (n + 1)) v d u e a) ∙ ap (λ (k : ℕ). running k s n at l) one-left ∙ r .rest;
+          }
 
--- the entry that lies at byte `at`
-pub entry-at : (s : Ledger) (l : List ℕ) (n at : ℕ) → at ≡ 257 * n
-    → auditing s (getD l at 0) (take ((at + 257) - (at + 1)) (drop (at + 1) l)) ≡ auditing s (directionAt l n) (containerAt l n)
-entry-at s l n at e = let k : (at + 257) - (at + 1) ≡ 256 = omega arith in rw (k, e)
+-- ---- how far a run goes
 
-pub entry-long : (l : List ℕ) (at : ℕ) → at + 257 ≤ length l → length (take ((at + 257) - (at + 1)) (drop (at + 1) l)) ≡ 256
-entry-long l at h = simp (length-take, length-drop) (omega arith)
+-- from n entries and byte `at` on, at most k entries of 257 to 261 bytes each
+pub record Bounded (k n at : ℕ) (l : List ℕ) (r : Run) : Type 0 where
+  pub least : n ≤ r .accepted
+  pub most : r .accepted ≤ n + k
+  pub far : at + 257 * (r .accepted - n) ≤ r .used
+  pub near : r .used ≤ at + 261 * (r .accepted - n)
+  pub inside : r .used ≤ length l
+
+bounded-stop : (k : ℕ) (s : Ledger) (n at : ℕ) (l : List ℕ) (a : Answer) → at ≤ length l → Bounded k n at l (halted s n at a)
+bounded-stop k s n at l a h = record { least = omega arith; most = omega arith; far = omega arith; near = omega arith; inside = h }
+
+bounded-more : (k n at u : ℕ) (l : List ℕ) (r : Run) → 257 ≤ u → u ≤ 261 → Bounded k (n + 1) (at + u) l r → Bounded (suc k) n at l r
+bounded-more k n at u l r low high b =
+    let x = b .least in
+    let y = b .most in
+    let f = b .far in
+    let m = b .near in
+    record { least = omega arith; most = omega arith; far = omega arith; near = omega arith; inside = b .inside }
+
+module _ (l : List ℕ) where
+  bounded-answer : (k : ℕ) (s : Ledger) (n at u : ℕ) (a : Answer) (r : Run) → at ≤ length l → 257 ≤ u → u ≤ 261 → Bounded k (n + 1) (at + u) l r
+      → Bounded (suc k) n at l (followed a s n at r)
+  bounded-answer k s n at u (Refused c p) r h low high b = bounded-stop (suc k) s n at l (Refused c p) h
+  bounded-answer k s n at u Accepted r h low high b = bounded-more k n at u l r low high b
+
+  bounded-frame : (k : ℕ) (s : Ledger) (n at : ℕ) (f : Framed) → framing (drop at l) ≡ f → at ≤ length l
+      → ((t : Ledger) (u : ℕ) → at + u ≤ length l → Bounded k (n + 1) (at + u) l (running k t (n + 1) (at + u) l))
+      → Bounded (suc k) n at l (whenWhole f (halted s n at Accepted) (onward s n at l k))
+  bounded-frame k s n at Broken e h go = bounded-stop (suc k) s n at l Accepted h
+  bounded-frame k s n at Short e h go = bounded-stop (suc k) s n at l Accepted h
+  bounded-frame k s n at (Whole v d u) e h go =
+      let w = whole-entry (drop at l) v d u e in
+      let some = w .some in
+      let few = w .few in
+      bounded-answer k s n at (u + 256) (stepAt s at l d u .answer) (running k (stepAt s at l d u .ledger) (n + 1) (at + (u + 256)) l) h (omega arith) (omega arith)
+      (go (stepAt s at l d u .ledger) (u + 256) (omega (arith, w .within, length-drop at l)))
+
+  pub run-bounded : (k : ℕ) (s : Ledger) (n at : ℕ) → at ≤ length l → Bounded k n at l (running k s n at l)
+  run-bounded zero s n at h = subst (Bounded 0 n at l) (sym (run-full s n at l)) (bounded-stop 0 s n at l Accepted h)
+  run-bounded (suc k) s n at h =
+      subst (Bounded (suc k) n at l) (sym (run-by s n at l k (framing (drop at l)) refl))
+      (bounded-frame k s n at (framing (drop at l)) refl h (λ t u fit. run-bounded k t (n + 1) (at + u) fit))
+
+-- a run over entries, from any ledger
+pub over-bounded : (s : Ledger) (most : ℕ) (l : List ℕ) → Bounded most 0 0 l (runOver s most l)
+over-bounded s most l =
+    pick-both (Bounded most 0 0 l) (ledgerOk s) (run-bounded l most s 0 0 (omega arith)) (bounded-stop most s 0 0 l (Refused InvalidState 0) (omega arith))
+
+-- ---- the entry at the front of what is left, as the code takes it
+
+pub framed-here : (l : List ℕ) (at : ℕ) {f g : Framed} → f ≡ framing (take (length l - at) (drop at l)) → f ≡ g → framing (drop at l) ≡ g
+framed-here l at e h = sym (ap framing (rest-is l at)) ∙ sym e ∙ h
+
+pub entry-is : (s : Ledger) (l : List ℕ) (at d u : ℕ) {t : Step} → t ≡ auditing s d (take ((at + u + 256) - (at + u)) (drop (at + u) l)) → t ≡ stepAt s at l d u
+entry-is s l at d u e = let k : (at + u + 256) - (at + u) ≡ 256 = omega arith in e ∙ ap (λ (n : ℕ). auditing s d (take n (drop (at + u) l))) k
+
+pub entry-long : (l : List ℕ) (begin : ℕ) → begin + 256 ≤ length l → length (take ((begin + 256) - begin) (drop begin l)) ≡ 256
+entry-long l begin h = simp (length-take, length-drop) (omega arith)

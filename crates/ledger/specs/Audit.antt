@@ -125,6 +125,10 @@ auditing s d c = record {
   answer = answerOf (firstFault (auditChecks s d c));
 }
 
+-- the step of an entry that is accepted and changes nothing
+abbrev pub unchanged : Ledger → Step
+unchanged s = record { ledger = s; answer = answer.Accepted }
+
 -- a ledger's start: nothing carried, held or open
 abbrev pub freshLedger : ℕ → Receiver → Receiver → Ledger
 freshLedger f a b = record {

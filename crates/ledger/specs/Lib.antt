@@ -4,11 +4,6 @@ pub mod ValidLedger
 pub mod Idle
 pub mod Counting
 pub mod Run
-pub mod Log
-pub mod Stream
-pub mod Cutting
 pub mod Calls
 pub mod RunRules
-pub mod LogRules
-pub mod WholeLog
 pub mod Faults

@@ -1,38 +1,41 @@
--- Entries audited one after the other, up to the first that is refused.
-use Prim.Native.Nat.{ℕ, zero, suc, _+_, _*_}
+-- Entries audited one after the other, as a log frames them, up to the first that is refused.
+use Prim.Native.Nat.{ℕ, zero, suc, _+_}
 use mathlib.Core.List.{List}
-use lib.ListN.{length, getD}
-use lib.Dec.{leb}
+use lib.ListN.{drop}
 use Rattle.lists.specs.Pick.{pick}
 use Rattle.lists.specs.Parts.{part}
-use Rattle.cause.specs.declared.Cause.the-variants.{BrokenRecord, InvalidState}
+use Rattle.cause.specs.declared.Cause.the-variants.{InvalidState}
+use Rattle.frame.specs.Framing.{framing}
+use Rattle.frame.specs.declared.Framed.{Framed}
+use Rattle.frame.specs.declared.Framed.the-variants.{Broken, Short, Whole}
 use Rattle.ledger.specs.Audit.{ledgerOk, auditing}
 use Rattle.ledger.specs.declared.ledger.Ledger.{Ledger}
 use Rattle.ledger.specs.declared.ledger.Answer.{Answer}
 use Rattle.ledger.specs.declared.ledger.Answer.the-variants.{Accepted, Refused}
 use Rattle.ledger.specs.declared.entries.Run.{Run}
 
--- entry n of a list whose entries lie one behind the other, each a direction and the 256 bytes of a container
-abbrev pub directionAt : List ℕ → ℕ → ℕ
-directionAt l n = getD l (257 * n) 0
+-- a run that stops behind n accepted entries and `at` bytes
+abbrev pub halted : Ledger → ℕ → ℕ → Answer → Run
+halted s n at a = record { ledger = s; accepted = n; used = at; answer = a }
 
-abbrev pub containerAt : List ℕ → ℕ → List ℕ
-containerAt l n = part (257 * n + 1) 256 l
+-- by the frame of the next entry: where it is not whole, the run stops; a whole one is of direction d and its container begins at u
+abbrev pub whenWhole : Framed → Run → (ℕ → ℕ → Run) → Run
+whenWhole Broken stop go = stop
+whenWhole Short stop go = stop
+whenWhole (Whole v d u) stop go = go d u
 
--- what an answer leads to behind n accepted entries: the refusal and the ledger handed back, or what follows from the next ledger
-abbrev pub followed : Answer → Ledger → ℕ → (Ledger → Run) → Run
-followed Accepted s n f = f s
-followed (Refused k p) s n f = record { ledger = s; accepted = n; answer = Refused k p }
+-- by the answer on the next entry: a refusal stops the run before it
+abbrev pub followed : Answer → Ledger → ℕ → ℕ → Run → Run
+followed (Refused k p) s n at go = halted s n at (Refused k p)
+followed Accepted s n at go = go
 
--- at most k entries, behind n accepted ones; one that is cut short is 17, at its offset
-unfoldable pub running : ℕ → Ledger → ℕ → List ℕ → Run
-running zero s n l = record { ledger = s; accepted = n; answer = Accepted }
-running (suc k) s n l =
-    pick (leb (length l) (257 * n)) (record { ledger = s; accepted = n; answer = Accepted })
-    (pick (leb (257 * n + 257) (length l))
-    (followed (auditing s (directionAt l n) (containerAt l n) .answer) (auditing s (directionAt l n) (containerAt l n) .ledger) n (λ t. running k t (n + 1) l))
-    (record { ledger = s; accepted = n; answer = Refused BrokenRecord (257 * n) }))
+-- at most k entries from byte `at` of l on, behind n accepted ones
+unfoldable pub running : ℕ → Ledger → ℕ → ℕ → List ℕ → Run
+running zero s n at l = halted s n at Accepted
+running (suc k) s n at l =
+    whenWhole (framing (drop at l)) (halted s n at Accepted)
+    (λ d u. followed (auditing s d (part (at + u) 256 l) .answer) s n at (running k (auditing s d (part (at + u) 256 l) .ledger) (n + 1) (at + (u + 256)) l))
 
--- all entries of a list; a ledger that is not valid is 19
-abbrev pub runOver : Ledger → List ℕ → Run
-runOver s l = pick (ledgerOk s) (running (length l) s 0 l) (record { ledger = s; accepted = 0; answer = Refused InvalidState 0 })
+-- at most `most` entries at the front of l; a ledger that is not valid is 19
+abbrev pub runOver : Ledger → ℕ → List ℕ → Run
+runOver s most l = pick (ledgerOk s) (running most s 0 0 l) (halted s 0 0 (Refused InvalidState 0))

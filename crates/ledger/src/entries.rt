@@ -1,97 +1,86 @@
-// Entries audited one after the other.
+// Entries audited one after the other, as a log frames them.
 ghost use mathlib.Core.Path.{_≡_};
 ghost use mathlib.Core.Bool.{true};
-ghost use lib.ListN.{length};
-ghost use Rattle.ledger.specs.Audit.{ledgerOk, auditing};
-ghost use Rattle.ledger.specs.Run.{running, runOver};
+ghost use Rattle.ledger.specs.Audit.{ledgerOk};
+ghost use Rattle.ledger.specs.Run.{halted, running, runOver};
 use crate::ledger::Answer;
 use crate::ledger::Ledger;
-use crate::ledger::Step;
 use cause::Cause;
+use frame::CONTAINER;
+use frame::Framed;
+use frame::frame_entry;
 
-// The ledger behind the entries, how many were accepted, and the last answer.
+// The ledger behind the entries, how many are accepted, their bytes, and the last answer.
 pub struct Run {
     pub ledger: Ledger,
-    pub accepted: usize,
+    pub accepted: u32,
+    pub used: usize,
     pub answer: Answer,
 }
 
-// A refusal behind so many accepted entries.
-fn refuse_run(ledger: Ledger, accepted: usize, cause: Cause, place: u64) -> Run
-    ensures { λ r. ⌜ r ≡ record { ledger = ledger; accepted = accepted; answer = Answer.Refused cause place } ⌝ }
+// A run that stops behind so many accepted entries and bytes.
+fn stop_run(ledger: Ledger, accepted: u32, used: usize, answer: Answer) -> Run
+    ensures { λ r. ⌜ r ≡ halted ledger accepted used answer ⌝ }
 {
     Run {
         ledger: ledger,
         accepted: accepted,
-        answer: Answer::Refused {
-            cause: cause,
-            place: place,
-        },
+        used: used,
+        answer: answer,
     }
 }
 
-// One entry, from a valid ledger.
-fn audit_entry(ledger: Ledger, direction: u8, container: &[u8]) -> Step
-    requires { ⌜ (ledgerOk ledger ≡ true) × (length (now container) ≡ 256) ⌝ }
-    ensures { λ r. ⌜ r ≡ auditing ledger direction (now (container .entry)) ⌝ }
-{
-    if 2 <= direction {
-        return Step {
-            ledger: ledger,
-            answer: Answer::Refused {
-                cause: Cause::InvalidState,
-                place: 0,
-            },
-        };
-    }
-    ledger.audit_valid(direction as usize, container)
-}
-
-// The entries of a list, each a direction and the 256 bytes of a container, from a valid ledger.
-fn audit_listed(ledger: Ledger, entries: &[u8]) -> Run
+// At most `most` entries at the front of the bytes, from a valid ledger; an idle one leaves it as it is.
+fn audit_framed(ledger: Ledger, bytes: &[u8], most: u32) -> Run
     requires { ⌜ ledgerOk ledger ≡ true ⌝ }
-    ensures { λ r. ⌜ r ≡ running (length (now (entries .entry))) ledger 0 (now (entries .entry)) ⌝ }
+    ensures { λ r. ⌜ r ≡ running most ledger 0 0 (now (bytes .entry)) ⌝ }
 {
     let mut state = ledger;
-    let mut count: usize = 0;
+    let mut count: u32 = 0;
     let mut at: usize = 0;
-    while 257 <= entries.len() - at {
-        let begin = at + 1;
-        let end = at + 257;
-        let step = audit_entry(state, entries[at], &entries[begin..end]);
-        let answer = step.answer;
-        match answer {
-            Answer::Refused { cause: _, place: _ } => {
-                return Run {
-                    ledger: state,
-                    accepted: count,
-                    answer: answer,
-                };
+    while count < most {
+        let framed = frame_entry(&bytes[at..]);
+        let Framed::Whole {
+            number: _,
+            direction,
+            start,
+        } = framed
+        else {
+            return stop_run(state, count, at, Answer::Accepted);
+        };
+        let begin = at + start;
+        let end = begin + CONTAINER;
+        if !state.rests(direction, &bytes[begin..end]) {
+            let step = state.audit_contents(direction, &bytes[begin..end]);
+            let answer = step.answer;
+            if let Answer::Refused { cause: _, place: _ } = answer {
+                return stop_run(state, count, at, answer);
             }
-            Answer::Accepted => {}
+            state = step.ledger;
         }
-        state = step.ledger;
         count += 1;
         at = end;
     }
-    if at < entries.len() {
-        return refuse_run(state, count, Cause::BrokenRecord, at as u64);
-    }
-    Run {
-        ledger: state,
-        accepted: count,
-        answer: Answer::Accepted,
-    }
+    stop_run(state, count, at, Answer::Accepted)
 }
 
 impl Ledger {
-    // Audits the entries of a list, up to the first that is refused; an entry that is cut short is refused too.
-    pub fn audit_entries(self, entries: &[u8]) -> Run
-        ensures { λ r. ⌜ r ≡ runOver self (now (entries .entry)) ⌝ }
+    // Audits at most `most` entries at the front of the bytes, as a log frames them: up to the first that is refused, and as long as whole
+    // ones are there.
+    pub fn audit_entries(self, bytes: &[u8], most: u32) -> Run
+        ensures { λ r. ⌜ r ≡ runOver self most (now (bytes .entry)) ⌝ }
     {
         if self.is_valid() {
-            return audit_listed(self, entries);
+            return audit_framed(self, bytes, most);
         }
-        refuse_run(self, 0, Cause::InvalidState, 0)
+        stop_run(
+            self,
+            0,
+            0,
+            Answer::Refused {
+                cause: Cause::InvalidState,
+                place: 0,
+            },
+        )
     }
 }

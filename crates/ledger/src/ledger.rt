@@ -10,7 +10,7 @@ ghost use Rattle.container.specs.Layout.{formatOf, msgStart};
 ghost use Rattle.container.specs.Grants.{headerGrant};
 ghost use Rattle.reader.specs.Reading.{judgeChecks, nextReader, carried};
 ghost use Rattle.pools.specs.Rows.{flattened};
-ghost use Rattle.ledger.specs.Audit.{receiverOf, readerOf, directionOk, ledgerOk, configured, opening, auditing, reported};
+ghost use Rattle.ledger.specs.Audit.{receiverOf, readerOf, directionOk, ledgerOk, configured, opening, unchanged, auditing, reported};
 ghost use Rattle.ledger.specs.Counting.{pooled, resting, settling, entered};
 use crate::books::judge_begun;
 use crate::books::judge_granted;
@@ -204,10 +204,12 @@ impl Ledger {
         false
     }
 
-    // Whether an entry is idle: nothing is carried in its direction, and it has nothing but zeros outside the link header.
+    // Whether an entry is idle: nothing is carried in its direction, and it has nothing but zeros outside the link header. A valid ledger
+    // accepts it and stays as it is.
     pub(crate) fn rests(self, direction: usize, container: &[u8]) -> bool
-        requires { ⌜ length (now container) ≡ 256 ⌝ }
+        requires { ⌜ (direction < 2) × (ledgerOk self ≡ true) × (length (now container) ≡ 256) ⌝ }
         ensures { λ r. ⌜ r ≡ resting self direction (now (container .entry)) ⌝ }
+        ensures { λ r. ⌜ (r ≡ true → unchanged self ≡ auditing self direction (now (container .entry))) ⌝ }
     {
         if direction == 0 {
             if self.len0 != 0 {
@@ -326,6 +328,22 @@ impl Ledger {
         self.settle(direction, next, paid, given)
     }
 
+    // An entry of 256 bytes by what it holds, from a valid ledger.
+    pub(crate) fn audit_contents(self, direction: usize, container: &[u8]) -> Step
+        requires { ⌜ (direction < 2) × (ledgerOk self ≡ true) × (length (now container) ≡ 256) ⌝ }
+        ensures { λ r. ⌜ r ≡ auditing self direction (now (container .entry)) ⌝ }
+    {
+        let judged = self.choose_reader(direction).judge(container);
+        let judgement = judged.judgement;
+        match judgement {
+            Judgement::Refused { cause, place } => self.refuse(cause, place),
+            Judgement::Accepted { grant, starts } => {
+                let next = judged.reader;
+                self.audit_read(direction, container, next, grant, starts)
+            }
+        }
+    }
+
     // An entry of 256 bytes, from a valid ledger: what is idle is accepted as it is.
     pub(crate) fn audit_valid(self, direction: usize, container: &[u8]) -> Step
         requires { ⌜ (direction < 2) × (ledgerOk self ≡ true) × (length (now container) ≡ 256) ⌝ }
@@ -337,15 +355,7 @@ impl Ledger {
                 answer: Answer::Accepted,
             };
         }
-        let judged = self.choose_reader(direction).judge(container);
-        let judgement = judged.judgement;
-        match judgement {
-            Judgement::Refused { cause, place } => self.refuse(cause, place),
-            Judgement::Accepted { grant, starts } => {
-                let next = judged.reader;
-                self.audit_read(direction, container, next, grant, starts)
-            }
-        }
+        self.audit_contents(direction, container)
     }
 
     // Whether a direction is one and the ledger is valid.

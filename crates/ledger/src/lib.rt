@@ -1,10 +1,8 @@
 // The audit of both directions of a link: receivers, pools and the ledger (document 01, "Pools and the audit").
 mod books;
-mod configuration;
 mod entries;
 mod idle;
 mod ledger;
-mod log;
 
 pub use entries::Run;
 pub use ledger::Answer;
@@ -12,7 +10,3 @@ pub use ledger::Ledger;
 pub use ledger::Opened;
 pub use ledger::Reported;
 pub use ledger::Step;
-pub use log::Consumed;
-pub use log::LogReader;
-pub use log::LogVerdict;
-pub use log::Outcome;

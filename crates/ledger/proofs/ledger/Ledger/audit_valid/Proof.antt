@@ -1,12 +1,4 @@
 -- `ledger::ledger::Ledger::audit_valid` meets its contract.
-use mathlib.Core.Path.{_≡_, sym, ap, _∙_}
-use lib.ListN.{length}
-use Rattle.reader.specs.Reading.{judging}
-use Rattle.reader.specs.declared.reader.Reader.{Reader}
-use Rattle.reader.proofs.AnswerLaws.{judged-refused, judged-accepted}
-use Rattle.ledger.specs.Audit.{readerOf}
-use Rattle.ledger.proofs.IdleTheorem.{idle-accepted}
-use Rattle.ledger.proofs.AuditLaws.{read-refused}
 use borrow.Author.Needs.{needs}
 use Rattle.ledger.proofs.ledger.Ledger.audit_valid.Statement.{statement}
 use Rattle.ledger.proofs.ledger.Ledger.audit_valid.Tie as tie
@@ -15,68 +7,13 @@ rests-requires : tie.Need-rests-requires
 rests-requires c κs = search needs
 
 returns : tie.Need-returns
-returns c =
-    let start = c .before .before .before in
-    let s = start .args .self in
-    let n0 : length (s .carry0) ≡ 100 = search needs in
-    let n1 : length (s .carry1) ≡ 100 = search needs in
-    let tables = start .good .0 .1 .1 .1 .1 .1 .1 .1 .1 .1 in
-    let nh : length (s .held) ≡ 28 = search (needs, tables .0) in
-    let nw : length (s .opened) ≡ 28 = search (needs, tables .1) in
-    sym (idle-accepted (start .args .self) (start .args .direction) (start .args .container .now) (start .pre .0) (start .pre .1) (start .pre .2) n0 n1 nh nw (sym (c .before .rests .ensures) ∙ c .if1 .taken))
+returns c = c .before .rests .ensures .1 (c .if1 .taken)
 
-choose-reader-requires : tie.Need-choose-reader-requires
-choose-reader-requires c κs = search needs
-
-judge-requires : tie.Need-judge-requires
-judge-requires c κs = search needs
-
-enum-known-judgement : tie.Need-enum-known-judgement
-enum-known-judgement c = search needs
-
-refuse-requires : tie.Need-refuse-requires
-refuse-requires c κs = search needs
-
-enum-known-judgement-2 : tie.Need-enum-known-judgement-2
-enum-known-judgement-2 c = search needs
-
-audit-read-requires : tie.Need-audit-read-requires
-audit-read-requires c κs =
-    let start = c .before .before .before .before .before .before .before .before .before in
-    let at-judge = c .before .before .before .before in
-    let reader = c .before .before .before .before .before in
-    let s = start .args .self in
-    let d = start .args .direction in
-    let b = start .args .container .now in
-    let made : at-judge .judge .result ≡ judging (readerOf s d) b = at-judge .judge .ensures ∙ ap (λ (r : Reader). judging r b) (reader .choose-reader .ensures) in
-    let a = judged-accepted (readerOf s d) b (at-judge .judge .result) made _ _ (c .before .before .judgement2 .given .1) in
-    (start .pre, (a .0, (a .3, (a .1, a .2))))
+audit-contents-requires : tie.Need-audit-contents-requires
+audit-contents-requires c κs = search needs
 
 returns-2 : tie.Need-returns-2
-returns-2 c =
-    let start = c .before .before .before .before .before .before .before .before .before in
-    let at-judge = c .before .before .before .before in
-    let reader = c .before .before .before .before .before in
-    let s = start .args .self in
-    let d = start .args .direction in
-    let b = start .args .container .now in
-    let made : at-judge .judge .result ≡ judging (readerOf s d) b = at-judge .judge .ensures ∙ ap (λ (r : Reader). judging r b) (reader .choose-reader .ensures) in
-    read-refused s d b (start .pre .0) (start .pre .1) (start .pre .2) (judged-refused (readerOf s d) b (at-judge .judge .result) made _ _ (c .before .before .judgement .given .1)) (c .refuse .ensures)
-
-returns-3 : tie.Need-returns-3
-returns-3 c = search needs
+returns-2 c = search needs
 
 pub audit-valid-spec : {M : Type 1} → statement M
-audit-valid-spec =
-    tie.close
-    (tie.spec
-    rests-requires
-    returns
-    choose-reader-requires
-    judge-requires
-    enum-known-judgement
-    refuse-requires
-    enum-known-judgement-2
-    audit-read-requires
-    returns-2
-    returns-3)
+audit-valid-spec = tie.close (tie.spec rests-requires returns audit-contents-requires returns-2)

@@ -1,0 +1,12 @@
+pub mod SettingLaws
+pub mod LogSteps
+pub mod LogStates
+pub mod SettingValid
+pub mod LogCalls
+pub mod CutTheorem
+pub mod AgainTheorem
+pub mod NumberRuleLaws
+pub mod LogRuleLaws
+pub mod LogRuns
+pub mod WholeLogLaws
+pub mod MarkedLogs

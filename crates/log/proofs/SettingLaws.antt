@@ -1,0 +1,161 @@
+-- The numbers of a configuration, one after the other: what each comes to, and what is looked at. Assumes nothing.
+use Prim.Native.Nat.{ℕ, zero, suc, _-_, _+_, _*_, _≤_, _<_}
+use mathlib.Core.Path.{_≡_, refl, sym, ap, subst, _∙_}
+use mathlib.Core.Bool.{Bool, true, false, _||_}
+use mathlib.Core.List.{List, _++_}
+use native.Mathlib.Omega.{arith}
+use lib.ListN.{length, take, drop, set, replicate, length-drop}
+use lib.Seq.{drop-drop, drop-append-le}
+use Rattle.lists.specs.Pick.{pick}
+use Rattle.lists.proofs.PickLaws.{pick-both}
+use Rattle.lists.proofs.PartLaws.{rest-is}
+use Rattle.cause.specs.declared.Cause.{Cause}
+use Rattle.cause.specs.declared.Cause.the-variants.{BrokenRecord, InvalidState}
+use Rattle.cause.specs.declared.Verdict.{Verdict}
+use Rattle.cause.specs.declared.Verdict.the-variants.{Sound, Faulty}
+use Rattle.record.specs.Number.{readNumber}
+use Rattle.record.specs.declared.number.Number.{Number}
+use Rattle.record.specs.declared.number.Number.the-variants.{Broken, Value}
+use Rattle.log.specs.Log.{Setting, wrong, set-up, settingFrom, settingOf, configurationOf, numberThen, valueOk}
+use Rattle.log.specs.declared.configuration.Configuration.{Configuration}
+use Rattle.record.proofs.NumberTakes.{Takes, takes-number, number-append}
+
+pub or-false : (b : Bool) → (b || false) ≡ b
+or-false true = refl
+or-false false = refl
+
+-- ---- one number
+
+pub setting-broken : (k : ℕ) (ns : List ℕ) (i at : ℕ) (l : List ℕ) → readNumber l ≡ Broken → settingFrom (suc k) ns i at l ≡ wrong BrokenRecord at
+unfolding settingFrom
+setting-broken k ns i at l e = rw e
+
+pub setting-wrong : (k : ℕ) (ns : List ℕ) (i at : ℕ) (l : List ℕ) (v u : ℕ) → readNumber l ≡ Value v u → valueOk ns i v ≡ false
+    → settingFrom (suc k) ns i at l ≡ wrong InvalidState 0
+unfolding settingFrom
+setting-wrong k ns i at l v u e f =
+    ap (λ (r : Number). numberThen r ns i at (λ v u. settingFrom k (set ns i v) (i + 1) (at + u) (drop u l))) e
+    ∙ ap (λ t. pick t (settingFrom k (set ns i v) (i + 1) (at + u) (drop u l)) (wrong InvalidState 0)) f
+
+pub setting-on : (k : ℕ) (ns : List ℕ) (i at : ℕ) (l : List ℕ) (v u : ℕ) → readNumber l ≡ Value v u → valueOk ns i v ≡ true
+    → settingFrom (suc k) ns i at l ≡ settingFrom k (set ns i v) (i + 1) (at + u) (drop u l)
+unfolding settingFrom
+setting-on k ns i at l v u e f =
+    ap (λ (r : Number). numberThen r ns i at (λ v u. settingFrom k (set ns i v) (i + 1) (at + u) (drop u l))) e
+    ∙ ap (λ t. pick t (settingFrom k (set ns i v) (i + 1) (at + u) (drop u l)) (wrong InvalidState 0)) f
+
+pub setting-done : (ns : List ℕ) (i at : ℕ) (l : List ℕ) → settingFrom zero ns i at l ≡ set-up ns at
+unfolding settingFrom
+setting-done ns i at l = refl
+
+-- ---- the loop over them
+
+-- it has come to number i, at byte `at`
+pub record Setting-at (b : List ℕ) (ns : List ℕ) (at i : ℕ) : Type 0 where
+  pub low : i ≤ 33
+  pub within : at ≤ length b
+  pub same : settingOf b ≡ settingFrom (33 - i) ns i at (drop at b)
+
+pub setting-begins : (b : List ℕ) → Setting-at b (replicate 33 0) 0 0
+setting-begins b = record { low = omega arith; within = omega arith; same = refl }
+
+module _ (b : List ℕ) (ns : List ℕ) (at i : ℕ) (h : Setting-at b ns at i) (more : i < 33) (r : Number)
+    (read : r ≡ readNumber (take (length b - at) (drop at b))) where
+  number-here : readNumber (drop at b) ≡ r
+  number-here = sym (read ∙ ap (λ (l : List ℕ). readNumber l) (rest-is b at))
+
+  suc-left : 33 - i ≡ suc (33 - (i + 1))
+  suc-left = omega arith
+
+  pub loop-broken : r ≡ Broken → settingOf b ≡ wrong BrokenRecord at
+  loop-broken e =
+      h .same ∙ ap (λ (k : ℕ). settingFrom k ns i at (drop at b)) suc-left
+      ∙ setting-broken (33 - (i + 1)) ns i at (drop at b) (number-here ∙ e)
+
+  pub loop-wrong : (v u : ℕ) → r ≡ Value v u → valueOk ns i v ≡ false → settingOf b ≡ wrong InvalidState 0
+  loop-wrong v u e f =
+      h .same ∙ ap (λ (k : ℕ). settingFrom k ns i at (drop at b)) suc-left
+      ∙ setting-wrong (33 - (i + 1)) ns i at (drop at b) v u (number-here ∙ e) f
+
+  pub loop-takes : (v u : ℕ) → r ≡ Value v u → (u ≤ 5) × (at + u ≤ length b)
+  loop-takes v u e =
+      let t : Takes (Value v u) 5 (length (drop at b)) = rw (number-here, e) at (takes-number (drop at b)) in
+      (t .1 .0, omega (arith, t .1 .1, length-drop at b, h .within))
+
+  pub loop-on : (v u : ℕ) → r ≡ Value v u → valueOk ns i v ≡ true → Setting-at b (set ns i v) (at + u) (i + 1)
+  loop-on v u e f = record {
+    low = omega arith;
+    within = loop-takes v u e .1;
+    same =
+        h .same ∙ ap (λ (k : ℕ). settingFrom k ns i at (drop at b)) suc-left
+        ∙ setting-on (33 - (i + 1)) ns i at (drop at b) v u (number-here ∙ e) f
+        ∙ ap (λ (l : List ℕ). settingFrom (33 - (i + 1)) (set ns i v) (i + 1) (at + u) l) (drop-drop u at b);
+  }
+
+pub setting-ends : (b : List ℕ) (ns : List ℕ) (at i : ℕ) → Setting-at b ns at i → 33 ≤ i → settingOf b ≡ set-up ns at
+setting-ends b ns at i h full =
+    let none : 33 - i ≡ 0 = omega arith in
+    h .same ∙ ap (λ (k : ℕ). settingFrom k ns i at (drop at b)) none ∙ setting-done ns i at (drop at b)
+
+-- ---- what the code's answer says of a configuration
+
+wrong-by : (t : Setting) (c : Cause) (p : ℕ) → configurationOf t .verdict ≡ Faulty c p → t ≡ wrong c p
+wrong-by (wrong x y) c p q = cc
+wrong-by (set-up ns n) c p q = absurd (let z : _≡_ {A = ℕ} 0 1 = cc in omega arith)
+
+good-by : (t : Setting) → configurationOf t .verdict ≡ Sound → t ≡ set-up (configurationOf t .numbers) (configurationOf t .used)
+good-by (wrong x y) q = absurd (let z : _≡_ {A = ℕ} 0 1 = cc in omega arith)
+good-by (set-up ns n) q = refl
+
+module _ (b : List ℕ) (r : Configuration) (e : r ≡ configurationOf (settingOf b)) where
+  told-verdict : (v : Verdict) → r .verdict ≡ v → configurationOf (settingOf b) .verdict ≡ v
+  told-verdict v q = sym (ap (λ (x : Configuration). x .verdict) e) ∙ q
+
+  pub told-wrong : (c : Cause) (p : ℕ) → r .verdict ≡ Faulty c p → settingOf b ≡ wrong c p
+  told-wrong c p q = wrong-by (settingOf b) c p (told-verdict (Faulty c p) q)
+
+  pub told-good : r .verdict ≡ Sound → settingOf b ≡ set-up (r .numbers) (r .used)
+  told-good q = good-by (settingOf b) (told-verdict Sound q) ∙ ap (λ (x : Configuration). set-up (x .numbers) (x .used)) (sym e)
+
+-- ---- how far it goes
+
+-- k numbers from byte `at` on, of m bytes, have at least a byte each and at most five, and no more than are there
+abbrev pub Holds : Setting → ℕ → ℕ → ℕ → Type 0
+Holds (wrong c p) at k m = Unit {0}
+Holds (set-up ns n) at k m = (at + k ≤ n) × ((n ≤ at + 5 * k) × (n ≤ at + m))
+
+holds-more : (t : Setting) (at u k m n : ℕ) → 1 ≤ u → u ≤ 5 → u + m ≤ n → Holds t (at + u) k m → Holds t at (suc k) n
+holds-more (wrong c p) at u k m n x y z h = tt
+holds-more (set-up ns j) at u k m n x y z h = (omega (arith, h .0), (omega (arith, h .1 .0), omega (arith, h .1 .1)))
+
+holds-number : (r : Number) (ns : List ℕ) (i at k m : ℕ) (f : ℕ → ℕ → Setting) → Takes r 5 m
+    → ((v u : ℕ) → u ≤ m → Holds (f v u) (at + u) k (m - u)) → Holds (numberThen r ns i at f) at (suc k) m
+holds-number Broken ns i at k m f t h = tt
+holds-number (Value v u) ns i at k m f t h =
+    pick-both (λ (x : Setting). Holds x at (suc k) m) (valueOk ns i v)
+    (holds-more (f v u) at u k (m - u) m (t .0) (t .1 .0) (omega (arith, t .1 .1)) (h v u (t .1 .1))) tt
+
+pub setting-holds : (k : ℕ) (ns : List ℕ) (i at : ℕ) (l : List ℕ) → Holds (settingFrom k ns i at l) at k (length l)
+unfolding settingFrom
+setting-holds zero ns i at l = (omega arith, (omega arith, omega arith))
+setting-holds (suc k) ns i at l =
+    holds-number (readNumber l) ns i at k (length l) (λ v u. settingFrom k (set ns i v) (i + 1) (at + u) (drop u l)) (takes-number l)
+    (λ v u fit. subst (λ (n : ℕ). Holds (settingFrom k (set ns i v) (i + 1) (at + u) (drop u l)) (at + u) k n) (length-drop u l)
+    (setting-holds k (set ns i v) (i + 1) (at + u) (drop u l)))
+
+number-same : (r : Number) (ns : List ℕ) (i at m : ℕ) (f g : ℕ → ℕ → Setting) → Takes r 5 m
+    → ((v u : ℕ) → u ≤ 5 → u ≤ m → f v u ≡ g v u) → numberThen r ns i at f ≡ numberThen r ns i at g
+number-same Broken ns i at m f g t h = refl
+number-same (Value v u) ns i at m f g t h =
+    ap (λ (x : Setting). pick (valueOk ns i v) x (wrong InvalidState 0)) (h v u (t .1 .0) (t .1 .1))
+
+-- no more than five bytes a number are looked at
+pub setting-append : (k : ℕ) (ns : List ℕ) (i at : ℕ) (l m : List ℕ) → 5 * k ≤ length l → settingFrom k ns i at (l ++ m) ≡ settingFrom k ns i at l
+unfolding settingFrom
+setting-append zero ns i at l m h = refl
+setting-append (suc k) ns i at l m h =
+    ap (λ (r : Number). numberThen r ns i at (λ v u. settingFrom k (set ns i v) (i + 1) (at + u) (drop u (l ++ m)))) (number-append l m (omega arith))
+    ∙ number-same (readNumber l) ns i at (length l) (λ v u. settingFrom k (set ns i v) (i + 1) (at + u) (drop u (l ++ m)))
+    (λ v u. settingFrom k (set ns i v) (i + 1) (at + u) (drop u l)) (takes-number l)
+    (λ v u five fit. ap (λ (x : List ℕ). settingFrom k (set ns i v) (i + 1) (at + u) x) (drop-append-le u l m fit)
+    ∙ setting-append k (set ns i v) (i + 1) (at + u) (drop u l) m (omega (arith, length-drop u l)))
