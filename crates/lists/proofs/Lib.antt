@@ -5,6 +5,7 @@ pub mod Tables
 pub mod PickLaws
 pub mod ReorderLaws
 pub mod PartLaws
+pub mod PutLaws
 pub mod ZeroLaws
 pub mod Fill
 pub mod FailLaws
