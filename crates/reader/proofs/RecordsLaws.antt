@@ -6,10 +6,10 @@ use native.Mathlib.Omega.{arith}
 use lib.ListN.{length, set}
 use Rattle.lists.specs.Parts.{put}
 use Rattle.lists.proofs.PartLaws.{length-put}
+use Rattle.lists.proofs.PutLaws.{put-none, put-behind}
 use Rattle.record.specs.Number.{number}
 use Rattle.record.proofs.NumberLaws.{number-small}
 use Rattle.record.specs.Records.{recordOf, recordsOf}
-use Rattle.reader.proofs.CopyLaws.{put-none, put-behind}
 
 -- the record of a message x of n bytes was written to the room l at a: the room is d
 pub record Written (l : List ℕ) (a n : ℕ) (x d : List ℕ) : Type 0 where

@@ -3,15 +3,25 @@ use Prim.Native.Nat.{ℕ, _+_, _-_, _≤_, _<_, min}
 use mathlib.Core.Path.{_≡_, refl, sym, ap, _∙_, subst}
 use mathlib.Core.List.{List, _++_}
 use native.Mathlib.Omega.{arith}
-use lib.ListN.{length, getD, take, drop, set, replicate, length-take, length-drop, length-set, length-replicate, getD-replicate, take-append-drop}
+use lib.ListN.{length, getD, take, drop, set, replicate}
+use lib.ListN.{length-take, length-drop, length-set, length-replicate, getD-replicate, take-append-drop}
 use lib.Seq.{take-all, getD-take, take-set-le, drop-set-add}
-use Rattle.lists.specs.Parts.{put}
+use Rattle.lists.specs.Parts.{put, pad}
 use Rattle.lists.proofs.PartLaws.{put-part}
-use Rattle.lists.proofs.Fill.{grown-all, Copied, copied-none, copied-more, copied-all}
+use Rattle.lists.proofs.Fill.{grown-all, put-zeros, Copied, copied-none, copied-more, copied-all}
+
+-- l with a part x copied into it from an offset on, as much of it as there is room for
+abbrev pub copiedInto : ℕ → List ℕ → List ℕ → List ℕ
+copiedInto at x l = put at (take (length l - at) x) l
 
 -- a part for which there is room is copied whole
-pub copied-whole : (at : ℕ) (x l : List ℕ) → at + length x ≤ length l → put at (take (length l - at) x) l ≡ put at x l
+pub copied-whole : (at : ℕ) (x l : List ℕ) → at + length x ≤ length l → copiedInto at x l ≡ put at x l
 copied-whole at x l h = ap (λ (r : List ℕ). put at r l) (take-all (length l - at) x (omega arith))
+
+-- and over zeros it has zeros behind
+pub copied-zeros : (n : ℕ) (x : List ℕ) → length x ≤ n → copiedInto 0 x (replicate n 0) ≡ pad n x
+copied-zeros n x h =
+    copied-whole 0 x (replicate n 0) (omega (arith, length-replicate {A = ℕ} n 0)) ∙ put-zeros n x
 
 -- the first i bytes of what there is room for of x stand in d from an offset on, over d₀
 pub record Copying (d₀ : List ℕ) (at : ℕ) (x d : List ℕ) (i : ℕ) : Type 0 where
@@ -43,7 +53,7 @@ module _ (d₀ : List ℕ) (at : ℕ) (x d : List ℕ) (i : ℕ) (h : Copying d�
       }
 
   -- all bytes
-  pub copying-all : min (length d₀ - at) (length x) ≤ i → d ≡ put at fitting d₀
+  pub copying-all : min (length d₀ - at) (length x) ≤ i → d ≡ copiedInto at x d₀
   copying-all l =
       let n = fitting-length in
       sym (take-append-drop at d) ∙ ap (λ (r : List ℕ). r ++ drop at d) (h .before)
