@@ -9,10 +9,10 @@ ghost use Rattle.audit.specs.Turns.{progressBy, turnBy, Taken, Audited, 
 use cause::Verdict;
 use input::Refill;
 use input::read_more;
+use libc::STDOUT_FILENO;
 use log::LogReader;
 use log::LogVerdict;
 use log::Outcome;
-use libc::STDOUT_FILENO;
 use text::write_verdict;
 
 // The room for a line.

@@ -1,5 +1,5 @@
 -- A call of the feeder from C by its parts. Assumes nothing.
-use Prim.Native.Nat.{ℕ, _-_, _≤_, _<_}
+use Prim.Native.Nat.{ℕ, _+_, _-_, _≤_, _<_}
 use mathlib.Core.Path.{_≡_, refl, sym, ap, _∙_}
 use mathlib.Core.Bool.{Bool, true, false, _&&_}
 use mathlib.Core.List.{List, [], _∷_, append-nil}
@@ -9,8 +9,9 @@ use lib.ListN.{length, set}
 use lib.Dec.{eqb, leb}
 use borrow.Author.Tests.{eqb-true, eq-eqb, ne-eqb, leb-true, le-leb, lt-leb}
 use Rattle.lists.specs.Parts.{part, put}
-use Rattle.lists.proofs.PartLaws.{length-part, length-put}
+use Rattle.lists.proofs.PartLaws.{part-most, length-put}
 use Rattle.lists.proofs.Tests.{and-left, and-right}
+use Rattle.slices.proofs.CopyLaws.{copiedInto, copied-whole}
 use Rattle.cause.specs.Causes.{causeNumber}
 use Rattle.cause.specs.Checks.{check, firstFault}
 use Rattle.cause.specs.declared.Cause.{Cause}
@@ -96,36 +97,44 @@ module _ (a : Answer) (w : Waiting) (c : Cause) (p : ℕ) (e : a ≡ Refused w c
 
 -- ---- the copies of what both lists moved over
 
-module _ (R O : List ℕ) (s e : Feed) (m : Moves R O s e) where
-  -- what each list moves over fits in the room
-  pub each-fits : (d : ℕ) → length (movedOver R O s e) ≤ d → (e .response - s .response ≤ d) × (e .other - s .other ≤ d)
-  each-fits d h = let a = moves-long R O s e m in (omega arith, omega arith)
+module _ (R O : List ℕ) (s e : Feed) (m : Moves R O s e) (room : List ℕ) (fits : length (movedOver R O s e) ≤ length room) where
+  abbrev R′ : List ℕ
+  R′ = part (s .response) (e .response - s .response) R
 
-  -- the first copy keeps the room's length
-  pub copied-long : (room d : List ℕ) → length (movedOver R O s e) ≤ length room → d ≡ put 0 (part (s .response) (e .response - s .response) R) room → length d ≡ length room
-  copied-long room d h ed =
-      let k = m .forward in
-      let l = m .within in
-      let fits = each-fits (length room) h .0 in
-      let a = length-part (s .response) (e .response - s .response) R (omega arith) in
-      ap length ed ∙ length-put 0 (part (s .response) (e .response - s .response) R) room (omega arith)
+  abbrev O′ : List ℕ
+  O′ = part (s .other) (e .other - s .other) O
+
+  -- what each list moved over fits in the room
+  each-fits : (0 + length R′ ≤ length room) × (0 + length O′ ≤ length room)
+  each-fits =
+      let a = moves-long R O s e m in
+      let r = part-most (s .response) (e .response - s .response) R in
+      let o = part-most (s .other) (e .other - s .other) O in
+      (omega arith, omega arith)
 
   -- of two copies one has no bytes
-  pub copied-both : (room c d : List ℕ) → c ≡ put 0 (part (s .response) (e .response - s .response) R) room
-      → d ≡ put 0 (part (s .other) (e .other - s .other) O) c → d ≡ put 0 (movedOver R O s e) room
-  copied-both room c d ec ed = ⊎-elim responses-stay others-stay (m .one)
+  pub copied-both : (c d : List ℕ) → c ≡ copiedInto 0 R′ room → d ≡ copiedInto 0 O′ c → d ≡ put 0 (movedOver R O s e) room
+  copied-both c d ec ed = ⊎-elim responses-stay others-stay (m .one)
     where
+      first : c ≡ put 0 R′ room
+      first = ec ∙ copied-whole 0 R′ room (each-fits .0)
+
+      second : d ≡ put 0 O′ c
+      second =
+          let long = ap length first ∙ length-put 0 R′ room (each-fits .0) in
+          ed ∙ copied-whole 0 O′ c (omega (arith, long, each-fits .1))
+
       responses-stay : e .response ≡ s .response → d ≡ put 0 (movedOver R O s e) room
       responses-stay q =
-          let none : part (s .response) (e .response - s .response) R ≡ [] = rw q (none-over (s .response) R) in
-          let same : c ≡ room = ec ∙ rw none in
-          rw none (rw same at ed)
+          let none : R′ ≡ [] = rw q (none-over (s .response) R) in
+          let same : c ≡ room = first ∙ rw none in
+          rw none (rw same at second)
 
       others-stay : e .other ≡ s .other → d ≡ put 0 (movedOver R O s e) room
       others-stay q =
-          let none : part (s .other) (e .other - s .other) O ≡ [] = rw q (none-over (s .other) O) in
-          let same : d ≡ c = ed ∙ rw none in
-          rw (none, append-nil (part (s .response) (e .response - s .response) R)) (same ∙ ec)
+          let none : O′ ≡ [] = rw q (none-over (s .other) O) in
+          let same : d ≡ c = second ∙ rw none in
+          rw (none, append-nil R′) (same ∙ first)
 
 -- ---- a call
 

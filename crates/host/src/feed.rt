@@ -1,8 +1,8 @@
 // The feeder for a host written in C: a feed of three lent numbers, and the record copied to lent room.
 ghost use mathlib.Core.Path.{_≡_};
-ghost use Prim.Native.Nat.{_-_, _≤_};
+ghost use Prim.Native.Nat.{_≤_};
 ghost use lib.ListN.{length};
-ghost use Rattle.lists.specs.Parts.{part, put};
+ghost use Rattle.lists.specs.Parts.{put};
 ghost use Rattle.cause.specs.Checks.{firstFault};
 ghost use Rattle.feeder.specs.Rules.{Moves, movedOver};
 ghost use Rattle.host.specs.Feed.{feedFrom, numbersOf, PositionsFit, listNumber, answerCode, Small, callChecks, feedCode, feedNumbers, feedRoom};
@@ -12,6 +12,7 @@ use cause::number_cause;
 use feeder::Answer;
 use feeder::Feed;
 use feeder::Waiting;
+use slices::copy_into;
 
 // The numbers of a feed.
 const NUMBERS: usize = 3;
@@ -48,18 +49,6 @@ fn store_feed(numbers: &mut [u32], feed: Feed)
     numbers[2] = feed.run;
 }
 
-// Copies the bytes of a list from one position to another to the front of lent room.
-fn copy_moved(room: &mut [u8], list: &[u8], from: usize, to: usize)
-    requires { ⌜ (from ≤ to) × (to ≤ length (now list)) × (to - from ≤ length (now room)) ⌝ }
-    ensures { λ _. ⌜ now (room .exit) ≡ put 0 (part from (to - from) (now (list .entry))) (now (room .entry)) ⌝ }
-{
-    let mut i = 0;
-    while i < to - from {
-        room[i] = list[from + i];
-        i += 1;
-    }
-}
-
 // Copies what both lists moved over, of which at most one has moved, to the front of lent room; answers its bytes.
 fn copy_record(room: &mut [u8], old: Feed, next: Feed, responses: &[u8], others: &[u8]) -> usize
     requires { ⌜ Moves (now responses) (now others) old next ⌝ }
@@ -67,9 +56,13 @@ fn copy_record(room: &mut [u8], old: Feed, next: Feed, responses: &[u8], others:
     ensures bytes { λ r. ⌜ r ≡ length (movedOver (now (responses .entry)) (now (others .entry)) old next) ⌝ }
     ensures room { λ _. ⌜ now (room .exit) ≡ put 0 (movedOver (now (responses .entry)) (now (others .entry)) old next) (now (room .entry)) ⌝ }
 {
-    copy_moved(room, responses, old.response, next.response);
-    copy_moved(room, others, old.other, next.other);
-    (next.response - old.response) + (next.other - old.other)
+    let response = old.response;
+    let other = old.other;
+    let response_end = next.response;
+    let other_end = next.other;
+    copy_into(room, 0, &responses[response..response_end]);
+    copy_into(room, 0, &others[other..other_end]);
+    (response_end - response) + (other_end - other)
 }
 
 // The verdict on state and room of a call: causes 19 and 2.

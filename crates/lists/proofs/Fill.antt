@@ -1,12 +1,12 @@
 -- A list d of which the first i elements have become those of a list t: what a loop that stores one element of t a turn has made of d.
 -- Assumes nothing.
 use mathlib.Core.Path.{_≡_, refl, ap, _∙_}
-use mathlib.Core.List.{List, [], _∷_, _++_}
+use mathlib.Core.List.{List, [], _∷_, _++_, append-nil}
 use Prim.Native.Nat.{ℕ, zero, suc, _+_, _-_, _<_, _≤_}
 use native.Mathlib.Nat.{not-suc-le-zero, le-of-suc-le-suc, zero-add}
 use native.Mathlib.Numerals.{add-one}
 use native.Mathlib.Omega.{arith}
-use lib.ListN.{length, set, take, drop, getD, replicate, length-set}
+use lib.ListN.{length, set, take, drop, getD, replicate, length-set, drop-of-length-le}
 use lib.Seq.{take-append-seam, take-all}
 use Rattle.lists.specs.Parts.{put, pad}
 
@@ -41,6 +41,14 @@ drop-zeros (suc k) (suc n) = let e : suc n - suc k ≡ n - k = omega arith in rw
 -- zeros whose front has become x are x with zeros behind
 pub grown-pad : (n : ℕ) (x : List ℕ) → grown (pad n x) (replicate n 0) (length x) ≡ pad n x
 grown-pad n x = rw (take-append-seam x (replicate (n - length x) 0), drop-zeros (length x) n)
+
+-- zeros with x put at their front are x with zeros behind
+pub put-zeros : (n : ℕ) (x : List ℕ) → put 0 x (replicate n 0) ≡ pad n x
+put-zeros n x = rw (zero-add (length x), drop-zeros (length x) n)
+
+-- a whole list put in place of another is that list
+pub put-whole : (x d : List ℕ) → length x ≡ length d → put 0 x d ≡ x
+put-whole x d e = rw (zero-add (length x), drop-of-length-le d {i = length x} (omega arith)) (append-nil x)
 
 -- d is d₀ with the first i bytes of t at its front
 pub record Copied (t d₀ d : List ℕ) (i : ℕ) : Type 0 where

@@ -86,8 +86,8 @@ pub part-set : (t n p v : ℕ) (c : List ℕ) → t + n ≤ length c → ((i : �
 part-set t n p v c h d = part-same t n (set c p v) c (rw (length-set c p v) h) (length-set c p v) (λ i a b. getD-set-other c p i v 0 (d i a b))
 
 -- a part that starts at a, written at its front, is the whole written at a
-pub put-part : (a : ℕ) (x c : List ℕ) → a ≤ length c → take a c ++ put 0 x (drop a c) ≡ put a x c
-put-part a x c h = let z : 0 + length x ≡ length x = zero-add (length x) in rw (z, drop-drop (length x) a c)
+pub put-part : (a : ℕ) (x c : List ℕ) → take a c ++ put 0 x (drop a c) ≡ put a x c
+put-part a x c = let z : 0 + length x ≡ length x = zero-add (length x) in rw (z, drop-drop (length x) a c)
 
 -- what comes back of a lent `&mut c[a..]` whose front became x
 pub put-mid : (a k : ℕ) (x c d : List ℕ) → a ≤ length c → k ≡ length c - a → d ≡ put 0 x (take k (drop a c)) → putMid a k c d ≡ put a x c
@@ -95,7 +95,7 @@ put-mid a k x c d h ek ed =
     let t : take k (drop a c) ≡ drop a c = take-all k (drop a c) (rw (length-drop a c) (omega arith)) in
     let n : drop k (drop a c) ≡ [] = drop-of-length-le (drop a c) {i = k} (rw (length-drop a c) (omega arith)) in
     let e : d ≡ put 0 x (drop a c) = rw t at ed in
-    rw (n, append-nil d, e) (put-part a x c h)
+    rw (n, append-nil d, e) (put-part a x c)
 
 -- what comes back of a lent `&mut c[a..a + k]` that became d
 pub put-middle : (a k : ℕ) (c d : List ℕ) → length d ≡ k → putMid a k c d ≡ put a d c

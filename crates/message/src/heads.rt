@@ -10,6 +10,7 @@ ghost use Rattle.message.specs.Heads.{opSizes, plainSizes, sizeBy, msgSi
 use container::is_form;
 use slices::byte_at;
 use slices::is_zero;
+use slices::is_zero_from;
 
 // What a message pays, by its type.
 pub enum Class {
@@ -147,11 +148,8 @@ fn keeps_activation(kind: u8, op: u8, third: u8) -> bool
 fn has_zero_tail(message: &[u8]) -> bool
     ensures { λ r. ⌜ r ≡ zeros (part 7 9 (now (message .entry))) ⌝ }
 {
-    if message.len() <= 7 {
-        return true;
-    }
     if message.len() < 16 {
-        return is_zero(&message[7..]);
+        return is_zero_from(message, 7);
     }
     is_zero(&message[7..16])
 }

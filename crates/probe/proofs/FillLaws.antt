@@ -2,14 +2,15 @@
 use Prim.Native.Nat.{ℕ, zero, suc, _+_, _-_, _*_, _%_, _≤_, _<_}
 use mathlib.Core.Path.{_≡_, refl, sym, ap, _∙_, subst}
 use mathlib.Core.Bool.{true, false, _&&_}
-use mathlib.Core.List.{List, append-nil}
+use mathlib.Core.List.{List}
 use native.Mathlib.Omega.{arith}
-use lib.ListN.{length, getD, drop, length-drop, drop-of-length-le}
+use lib.ListN.{length, getD, drop, length-drop}
 use lib.Seq.{length-take-le}
 use lib.Dec.{eqb, ltb, leb}
 use borrow.Author.Tests.{eq-eqb, ne-eqb, leb-true, lt-ltb, le-ltb}
-use Rattle.lists.specs.Parts.{put, pad}
 use Rattle.lists.proofs.PickLaws.{pick-by}
+use Rattle.lists.proofs.Fill.{put-whole}
+use Rattle.slices.proofs.CopyLaws.{copiedInto, copied-whole}
 use Rattle.cause.specs.Checks.{firstFault, whenSound, orElse}
 use Rattle.cause.specs.Causes.{causeNumber}
 use Rattle.cause.specs.declared.Cause.{Cause}
@@ -36,14 +37,10 @@ use Rattle.writer.proofs.SaneLaws.{sane-at}
 use Rattle.writer.proofs.HoldLaws.{owed-length, held-owes, held-used}
 use Rattle.probe.specs.Fill.{grantFrom, writerFrom, answerCode, Small, sized, asked, fillCode, fillTail, fillContainer}
 
--- ---- whole lists of one length
+-- ---- a list copied over another of the same length
 
-pub same-le : (m n : ℕ) → m ≡ n → m ≤ n
-same-le m n e = omega arith
-
-pub put-whole : (x d : List ℕ) → length x ≡ length d → put 0 x d ≡ x
-put-whole x d e =
-    let h : length d ≤ 0 + length x = omega arith in rw (drop-of-length-le d {i = 0 + length x} h) (append-nil x)
+pub copied-over : (x d : List ℕ) → length x ≡ length d → copiedInto 0 x d ≡ x
+copied-over x d e = copied-whole 0 x d (omega arith) ∙ put-whole x d e
 
 -- ---- the place of a broken record
 

@@ -11,6 +11,7 @@ use feeder::Feed;
 use reader::Judgement;
 use reader::Reader;
 use slices::byte_at;
+use slices::copy_into;
 use writer::Answer;
 use writer::Writer;
 
@@ -38,24 +39,8 @@ fn load_tail(part: &[u8]) -> [u8; 100]
     ensures { λ r. ⌜ r ≡ now (part .entry) ⌝ }
 {
     let mut out = [0u8; 100];
-    let mut i = 0;
-    while i < part.len() {
-        out[i] = part[i];
-        i += 1;
-    }
+    copy_into(&mut out, 0, part);
     out
-}
-
-// Writes a tail to a part.
-fn store_tail(part: &mut [u8], tail: [u8; 100])
-    requires { ⌜ length (now part) ≡ 100 ⌝ }
-    ensures { λ _. ⌜ now (part .exit) ≡ tail ⌝ }
-{
-    let mut i = 0;
-    while i < 100 {
-        part[i] = tail[i];
-        i += 1;
-    }
 }
 
 // The grant of six bytes ShC, RP, REQ, RSP, SNP and DAT.
@@ -114,7 +99,7 @@ pub extern "C" fn c2c_fill(
     let step = writer.fill(list, load_grant(grant), container);
     let next = step.writer;
     let kept = next.tail;
-    store_tail(tail, kept);
+    copy_into(tail, 0, &kept);
     let answer = step.answer;
     encode_answer(answer, next.len)
 }

@@ -4,14 +4,16 @@ use mathlib.Core.Path.{_≡_, refl, sym, ap, _∙_}
 use mathlib.Core.List.{List, [], _++_, append-nil}
 use native.Mathlib.Omega.{arith}
 use native.Mathlib.Numerals.{add-one}
-use lib.ListN.{length, take, drop, replicate, length-append, length-take, length-replicate, replicate-append-replicate}
-use lib.Seq.{length-take-le, drop-at}
+use lib.ListN.{length, take, drop, replicate, length-append, length-take}
+use lib.Seq.{length-take-le}
 use lib.Dec.{eqb}
 use borrow.Author.Tests.{eq-eqb, ne-eqb}
 use Rattle.lists.specs.Pick.{pick}
 use Rattle.lists.specs.Parts.{put, pad}
 use Rattle.lists.proofs.PartLaws.{length-put}
 use Rattle.lists.proofs.PutLaws.{put-none, put-more}
+use Rattle.lists.proofs.Fill.{put-zeros}
+use Rattle.slices.proofs.CopyLaws.{copiedInto, copied-whole}
 use Rattle.container.specs.Layout.{Format, formatOf, start, wide, granule}
 use Rattle.container.proofs.Formats.{granule-length}
 use Rattle.reader.specs.Tracking.{gathered}
@@ -89,14 +91,14 @@ module _ (f : ℕ) (c : List ℕ) (s n at : ℕ) (d₀ d : List ℕ) (k end : �
           let j = room in
           omega arith
 
-      pub gathering-part : (a : ℕ) → end + length (take ((a + 20) - a) (drop a c)) ≤ length d
-      gathering-part a =
+      part-fits : (a : ℕ) → end + length (take ((a + 20) - a) (drop a c)) ≤ length d
+      part-fits a =
           let r = gathering-room in
           let e : (a + 20) - a ≡ 20 = omega arith in
           simp (e, length-take) (omega arith)
 
-      pub gathering-more : (a : ℕ) → a ≡ start (s + k) → (e : List ℕ) → e ≡ put end (take ((a + 20) - a) (drop a c)) d → (end′ : ℕ) → end′ ≡ end + 20
-          → Gathering f c s n at d₀ e (k + 1) end′
+      pub gathering-more : (a : ℕ) → a ≡ start (s + k) → (e : List ℕ) → e ≡ copiedInto end (take ((a + 20) - a) (drop a c)) d
+          → (end′ : ℕ) → end′ ≡ end + 20 → Gathering f c s n at d₀ e (k + 1) end′
       gathering-more a ea e q end′ v =
           let x = gathered fm c s k in
           let y = granule fm (s + k) c in
@@ -104,7 +106,7 @@ module _ (f : ℕ) (c : List ℕ) (s n at : ℕ) (d₀ d : List ℕ) (k end : �
           let m = more in
           let j = room in
           let is : e ≡ put at (gathered fm c s (k + 1)) d₀ =
-          q ∙ ap (λ (t : List ℕ). put end t d) (wide-part fm (s + k) a w c ea ew z)
+          q ∙ copied-whole end (take ((a + 20) - a) (drop a c)) d (part-fits a) ∙ ap (λ (t : List ℕ). put end t d) (wide-part fm (s + k) a w c ea ew z)
           ∙ ap (λ (t : List ℕ). put end y t) (h .is) ∙ ap (λ (i : ℕ). put i y (put at x d₀)) r
           ∙ put-more at x y d₀ (omega arith) ∙ ap (λ (t : List ℕ). put at t d₀) (sym (gathered-wide fm c s k (sym ew ∙ z))) in
           record {
@@ -125,21 +127,24 @@ module _ (m : List ℕ) (k at : ℕ) (y l : List ℕ) (kept : k ≤ length m) (f
   all-kept : k - 0 ≡ k
   all-kept = omega arith
 
-  pub front-fits : at + length (take (k - 0) m) ≤ length l
+  front-fits : at + length (take (k - 0) m) ≤ length l
   front-fits = let n = both-length in rw (all-kept, front-length) (omega arith)
 
-  module _ (d : List ℕ) (q : d ≡ put at (take (k - 0) m) l) where
+  module _ (d : List ℕ) (q : d ≡ copiedInto at (take (k - 0) m) l) where
+    front-put : d ≡ put at (take (k - 0) m) l
+    front-put = q ∙ copied-whole at (take (k - 0) m) l front-fits
+
     pub behind-fits : (at + k) + length y ≤ length d
     behind-fits =
         let n = both-length in
-        let e : length d ≡ length l = ap length q ∙ length-put at (take (k - 0) m) l front-fits in
+        let e : length d ≡ length l = ap length front-put ∙ length-put at (take (k - 0) m) l front-fits in
         omega arith
 
     pub both-put : (e : List ℕ) → e ≡ put (at + k) y d → e ≡ put at (take k m ++ y) l
     both-put e r =
         let n = both-length in
         let x = take k m in
-        r ∙ ap (put (at + k) y) (q ∙ ap (λ (j : ℕ). put at (take j m) l) all-kept)
+        r ∙ ap (put (at + k) y) (front-put ∙ ap (λ (j : ℕ). put at (take j m) l) all-kept)
         ∙ ap (λ (j : ℕ). put (at + j) y (put at x l)) (sym front-length)
         ∙ put-more at x y l (rw front-length (omega arith))
 
@@ -152,11 +157,4 @@ module _ (n o : ℕ) (x : List ℕ) (some : o ≡ 0 → ⊥) (fits : length (pic
   carried-fits = let h : length x ≤ n = rw (ne-eqb o 0 some) at fits in omega arith
 
   pub carried-some : (d : List ℕ) → d ≡ put 0 x (replicate n 0) → d ≡ pad n (pick (eqb o 0) [] x)
-  carried-some d q =
-      let h = carried-fits in
-      let k = length x in
-      let e : k + (n - k) ≡ n = omega arith in
-      let s : replicate {A = ℕ} n 0 ≡ replicate k 0 ++ replicate (n - k) 0 = sym (replicate-append-replicate {A = ℕ} k (n - k) 0 ∙ ap (λ (j : ℕ). replicate {A = ℕ} j 0) e) in
-      let z : drop (0 + k) (replicate {A = ℕ} n 0) ≡ replicate (n - k) 0 =
-      ap (drop (0 + k)) s ∙ drop-at (replicate {A = ℕ} k 0) (replicate (n - k) 0) (0 + k) (length-replicate {A = ℕ} k 0 ∙ omega arith) in
-      q ∙ rw (ne-eqb o 0 some) (ap (λ (r : List ℕ). x ++ r) z)
+  carried-some d q = q ∙ rw (ne-eqb o 0 some) (put-zeros n x)

@@ -11,7 +11,6 @@ pub mod CellLaws
 pub mod MarkLaws
 pub mod ScanLaws
 pub mod JudgeLaws
-pub mod CopyLaws
 pub mod GatherLaws
 pub mod RecordsLaws
 pub mod EndingCases

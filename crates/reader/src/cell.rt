@@ -2,9 +2,8 @@
 ghost use mathlib.Core.Path.{_≡_};
 ghost use mathlib.Core.Bool.{true, false, _&&_};
 ghost use Prim.Native.Nat.{_<_};
-ghost use lib.ListN.{length, drop};
+ghost use lib.ListN.{length};
 ghost use lib.Dec.{ltb, eqb};
-ghost use Rattle.lists.specs.Parts.{zeros};
 ghost use Rattle.container.specs.Layout.{formatOf, wide, bit, granule};
 ghost use Rattle.reader.specs.Tracking.{cellFrom, finding, startMark};
 use cause::Cause;
@@ -20,6 +19,7 @@ use message::may_start;
 use message::measure_code;
 use slices::byte_at;
 use slices::is_zero;
+use slices::is_zero_from;
 
 // What judging a granule finds: a fault, or the mark that its group and the header are judged by and the size of the message that starts, 0 for none.
 pub enum Finding {
@@ -36,16 +36,6 @@ fn mark_start(kind: u8, op: u8) -> u8
         return (counts + 128) as u8;
     }
     counts as u8
-}
-
-// Whether all bytes from `from` on are zero.
-fn has_zero_rest(part: &[u8], from: usize) -> bool
-    ensures { λ r. ⌜ r ≡ zeros (drop from (now (part .entry))) ⌝ }
-{
-    if from < part.len() {
-        return is_zero(&part[from..]);
-    }
-    true
 }
 
 // A granule where a message starts and none goes on.
@@ -69,7 +59,7 @@ fn judge_start(format: u32, g: u8, part: &[u8]) -> Finding
     if !keeps_grant(kind, op, part) {
         return Finding::Fault(Cause::HeadWrong);
     }
-    if !has_zero_rest(part, size) {
+    if !is_zero_from(part, size) {
         return Finding::Fault(Cause::UnusedByteNotZero);
     }
     Finding::Mark(mark_start(kind, op), size)

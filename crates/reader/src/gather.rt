@@ -8,18 +8,7 @@ ghost use Rattle.reader.specs.Tracking.{gathered, gatheredMessage, inPro
 use crate::track::Track;
 use container::locate_granule;
 use container::measure_granule;
-
-// Copies a part into lent memory from an offset on.
-pub(crate) fn copy_part(out: &mut [u8], at: usize, part: &[u8])
-    requires { ⌜ at + length (now part) ≤ length (now out) ⌝ }
-    ensures { λ _. ⌜ now (out .exit) ≡ put at (now (part .entry)) (now (out .entry)) ⌝ }
-{
-    let mut i = 0;
-    while i < part.len() {
-        out[at + i] = part[i];
-        i += 1;
-    }
-}
+use slices::copy_into;
 
 // Copies the wide ones among `count` granules from `from` on into lent memory from an offset on.
 pub(crate) fn gather_granules(
@@ -41,7 +30,7 @@ pub(crate) fn gather_granules(
         if measure_granule(format, g) == 20 {
             let a = locate_granule(g);
             let behind = a + 20;
-            copy_part(out, end, &container[a..behind]);
+            copy_into(out, end, &container[a..behind]);
             end += 20;
         }
         k += 1;
@@ -65,7 +54,7 @@ pub(crate) fn gather_message(
 {
     let kept = track.kept;
     let from = track.from;
-    copy_part(out, at, &carry[0..kept]);
+    copy_into(out, at, &carry[0..kept]);
     gather_granules(format, container, from, g - from, out, at + kept);
 }
 

@@ -9,13 +9,13 @@ ghost use Rattle.record.specs.Records.{recordOf, recordsOf};
 ghost use Rattle.placement.specs.Cells.{cells, endings};
 ghost use Rattle.placement.specs.Cells.{carryOk};
 ghost use Rattle.reader.specs.Tracking.{gatheredMessage, endedBy, Ending};
-use crate::gather::copy_part;
 use crate::gather::gather_message;
 use crate::track::Track;
 use container::locate_granule;
 use container::measure_granule;
 use container::starts_at;
 use message::measure_message;
+use slices::copy_into;
 
 // Writes a message of at most 20 bytes as a record, and answers the offset behind it.
 fn write_short(message: &[u8], room: &mut [u8], at: usize) -> usize
@@ -24,7 +24,7 @@ fn write_short(message: &[u8], room: &mut [u8], at: usize) -> usize
     ensures room { λ _. ⌜ now (room .exit) ≡ put at (recordOf (now (message .entry))) (now (room .entry)) ⌝ }
 {
     room[at] = message.len() as u8;
-    copy_part(room, at + 1, message);
+    copy_into(room, at + 1, message);
     at + 1 + message.len()
 }
 

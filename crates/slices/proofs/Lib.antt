@@ -1,2 +1,3 @@
+pub mod CopyLaws
 pub mod FrontLaws
 pub mod ZeroTest

@@ -1,7 +1,7 @@
-// A byte of a part, the test that all bytes of a part are zero, and bytes moved to the front.
+// A byte of a part, the tests that all bytes of a part or all from a position on are zero, and bytes moved to the front.
 ghost use mathlib.Core.Path.{_≡_};
 ghost use Prim.Native.Nat.{_+_, _≤_, _<_};
-ghost use lib.ListN.{getD, length, take};
+ghost use lib.ListN.{getD, length, take, drop};
 ghost use lib.Dec.{eqb};
 ghost use Rattle.lists.specs.Parts.{part, put, zeros, sum};
 
@@ -90,6 +90,16 @@ pub fn is_zero(part: &[u8]) -> bool
         i += 16;
     }
     (bits | merge_sixteen(part, last)) == 0
+}
+
+// Whether all bytes from `from` on are zero.
+pub fn is_zero_from(part: &[u8], from: usize) -> bool
+    ensures { λ r. ⌜ r ≡ zeros (drop from (now (part .entry))) ⌝ }
+{
+    if from < part.len() {
+        return is_zero(&part[from..]);
+    }
+    true
 }
 
 // Moves the n bytes from `from` on to the front, or as many of them as there are; the bytes behind them stay.

@@ -4,10 +4,11 @@ use mathlib.Core.Path.{_≡_, refl, sym, ap, _∙_}
 use mathlib.Core.Bool.{true, false}
 use mathlib.Core.List.{List}
 use native.Mathlib.Omega.{arith}
-use lib.ListN.{length, take, drop, replicate}
+use lib.ListN.{length, take, drop, replicate, length-take}
 use lib.Seq.{length-take-le}
 use Rattle.lists.specs.Pick.{pick}
 use Rattle.lists.specs.Parts.{pad}
+use Rattle.slices.proofs.CopyLaws.{copiedInto, copied-zeros}
 use Rattle.cause.specs.Checks.{whenSound}
 use Rattle.cause.specs.declared.Cause.{Cause}
 use Rattle.cause.specs.declared.Verdict.{Verdict}
@@ -44,11 +45,21 @@ module _ (t l : List ℕ) (p : Cursor) where
   size : (p .from + p .left) - p .from ≡ p .left
   size = omega arith
 
-  pub tail-old : p .tail ≡ true → (r : List ℕ) → r ≡ pad 100 (take ((p .from + p .left) - p .from) (drop (p .from) t)) → r ≡ pad 100 (owedOf t l p)
-  tail-old e r q = (rw size at q) ∙ rw e
+  module _ (most : p .left ≤ 100) where
+    -- copied over zeros
+    owed-copied : (s r : List ℕ) → r ≡ copiedInto 0 (take ((p .from + p .left) - p .from) (drop (p .from) s)) (replicate 100 0)
+        → r ≡ pad 100 (take (p .left) (drop (p .from) s))
+    owed-copied s r q =
+        let n = length-take ((p .from + p .left) - p .from) (drop (p .from) s) in
+        q ∙ copied-zeros 100 (take ((p .from + p .left) - p .from) (drop (p .from) s)) (omega arith) ∙ rw size
 
-  pub tail-list : p .tail ≡ false → (r : List ℕ) → r ≡ pad 100 (take ((p .from + p .left) - p .from) (drop (p .from) l)) → r ≡ pad 100 (owedOf t l p)
-  tail-list e r q = (rw size at q) ∙ rw e
+    pub tail-old : p .tail ≡ true → (r : List ℕ) → r ≡ copiedInto 0 (take ((p .from + p .left) - p .from) (drop (p .from) t)) (replicate 100 0)
+        → r ≡ pad 100 (owedOf t l p)
+    tail-old e r q = owed-copied t r q ∙ rw e
+
+    pub tail-list : p .tail ≡ false → (r : List ℕ) → r ≡ copiedInto 0 (take ((p .from + p .left) - p .from) (drop (p .from) l)) (replicate 100 0)
+        → r ≡ pad 100 (owedOf t l p)
+    tail-list e r q = owed-copied l r q ∙ rw e
 
   pub within-old : p .tail ≡ true → (0 < p .left → p .from + p .left ≤ length (pick (p .tail) t l)) → (p .left ≡ 0 → ⊥) → p .from + p .left ≤ length t
   within-old e h d = rw e at (h (omega arith))

@@ -6,7 +6,6 @@ pub mod Groups
 pub mod Container
 pub mod OneWayLaws
 pub mod LegalLaws
-pub mod FillLaws
 pub mod HeaderLaws
 pub mod SaneLaws
 pub mod PlanLaws
@@ -14,7 +13,6 @@ pub mod HoldLaws
 pub mod CursorCases
 pub mod LaidLaws
 pub mod StateCases
-pub mod TailLaws
 pub mod AnswerLaws
 pub mod StartedHere
 pub mod ValidLaws

@@ -11,7 +11,6 @@ ghost use Rattle.container.specs.Layout.{formatOf, start};
 ghost use Rattle.record.specs.Records.{firstOf};
 ghost use Rattle.record.specs.declared.list.First.the-variants.{Whole};
 ghost use Rattle.writer.specs.Holding.{Sane, noGroup, mayBy, cursorEmpty, cursorOn, cursorUsed, cursorTaken, cursorFirst, bytesFirst, cursorNext, bytesNext, cursorAt, laidTo, owedOf};
-use crate::fill::clear_container;
 use crate::fill::fill_granule;
 use crate::group::Group;
 use container::Grant;
@@ -21,6 +20,7 @@ use message::count_responses;
 use record::First;
 use record::read_record;
 use slices::byte_at;
+use slices::clear;
 
 // What is owed is `left` bytes from `from` on, of the old tail or of the list; `at` bytes of the list are used, and `starts` is
 // MsgStart so far.
@@ -275,7 +275,7 @@ pub(crate) fn fill_granules(
     ensures cursor { λ r. ⌜ r ≡ cursorAt (formatOf format) grant (now (tail .entry)) (now (list .entry)) 12 ⌝ }
     ensures bytes { λ _. ⌜ now (container .exit) ≡ laidTo (formatOf format) grant (now (tail .entry)) (now (list .entry)) 12 ⌝ }
 {
-    clear_container(container);
+    clear(container);
     let mut cursor = Cursor::begin(tail.len());
     let mut g: u8 = 0;
     while g < 12 {

@@ -1,7 +1,7 @@
 // A granule filled in its own part of the container, and the header written.
 ghost use mathlib.Core.Path.{_≡_};
 ghost use Prim.Native.Nat.{_≤_, _<_};
-ghost use lib.ListN.{length, getD, replicate};
+ghost use lib.ListN.{length, getD};
 ghost use Rattle.lists.specs.Parts.{put, pad};
 ghost use Rattle.container.specs.Layout.{formatOf, start};
 ghost use Rattle.writer.specs.Laying.{headerBytes, setAll};
@@ -32,17 +32,6 @@ pub(crate) fn fill_granule(container: &mut [u8], format: u32, g: u8, src: &[u8])
     let a = locate_granule(g);
     let size = measure_granule(format, g);
     copy_and_zero(&mut container[a..], src, size);
-}
-
-// Writes zeros everywhere.
-pub fn clear_container(container: &mut [u8])
-    ensures { λ _. ⌜ now (container .exit) ≡ replicate (length (now (container .entry))) 0 ⌝ }
-{
-    let mut at = 0;
-    while at < container.len() {
-        container[at] = 0;
-        at += 1;
-    }
 }
 
 // Header byte Pi under a MsgStart and a grant.

@@ -18,6 +18,7 @@ use cause::Verdict;
 use container::Grant;
 use container::allows_plane;
 use record::check_list;
+use slices::copy_into;
 use slices::is_zero;
 
 // A format, and the tail that is owed of a message begun before, with zeros behind.
@@ -55,20 +56,6 @@ fn is_grant(grant: Grant) -> bool
     false
 }
 
-// The bytes of a part of at most 100 bytes, with zeros behind.
-fn copy_tail(part: &[u8]) -> [u8; 100]
-    requires { ⌜ length (now part) ≤ 100 ⌝ }
-    ensures { λ r. ⌜ r ≡ pad 100 (now (part .entry)) ⌝ }
-{
-    let mut out = [0u8; 100];
-    let mut i = 0;
-    while i < part.len() {
-        out[i] = part[i];
-        i += 1;
-    }
-    out
-}
-
 // What is owed behind a container, with zeros behind.
 fn keep_tail(cursor: Cursor, tail: &[u8], list: &[u8]) -> [u8; 100]
     requires { ⌜ (cursor .left ≤ 100) × (cursor .from ≤ 4300) ⌝ }
@@ -77,14 +64,17 @@ fn keep_tail(cursor: Cursor, tail: &[u8], list: &[u8]) -> [u8; 100]
 {
     let from = cursor.from;
     let left = cursor.left;
+    let mut out = [0u8; 100];
     if left == 0 {
-        return [0u8; 100];
+        return out;
     }
     let end = from + left;
     if cursor.tail {
-        return copy_tail(&tail[from..end]);
+        copy_into(&mut out, 0, &tail[from..end]);
+        return out;
     }
-    copy_tail(&list[from..end])
+    copy_into(&mut out, 0, &list[from..end]);
+    out
 }
 
 impl Writer {

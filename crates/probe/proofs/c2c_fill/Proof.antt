@@ -1,8 +1,8 @@
 -- `probe::c2c_fill` meets its contract.
-use mathlib.Core.Path.{ap, _∙_}
+use mathlib.Core.Path.{_≡_, sym, ap, _∙_}
 use lib.ListN.{length}
 use Rattle.probe.specs.Fill.{writerFrom}
-use Rattle.probe.proofs.FillLaws.{step-small, code-unsized, tail-unsized, container-unsized, code-sized, tail-sized, container-sized, other-tail, other-grant, other-bit, right-sizes}
+use Rattle.probe.proofs.FillLaws.{copied-over, step-small, code-unsized, tail-unsized, container-unsized, code-sized, tail-sized, container-sized, other-tail, other-grant, other-bit, right-sizes}
 use borrow.Author.Needs.{needs}
 use Rattle.probe.proofs.c2c_fill.Statement.{statement}
 use Rattle.probe.proofs.c2c_fill.Tie as tie
@@ -61,21 +61,19 @@ load-grant-requires c κs = search needs
 fill-requires : tie.Need-fill-requires
 fill-requires c κs = search needs
 
-store-tail-requires : tie.Need-store-tail-requires
-store-tail-requires c κs = search needs
+slice-aggregate-copy-into : tie.Need-slice-aggregate-copy-into
+slice-aggregate-copy-into c = search needs
+
+copy-into-requires : tie.Need-copy-into-requires
+copy-into-requires c κs = search needs
 
 encode-answer-requires : tie.Need-encode-answer-requires
 encode-answer-requires c κs =
-    let start = c .before .before .before .before .before .before .before .before .before .before .before .before .before .before .before .before .before .before .before .before .before in
-    let t = start .args .tail .now in
-    let b = start .args .grant .now in
-    let l = start .args .list .now in
-    let d = start .args .container .now in
-    let loaded = c .before .before .before .before .before .before .before .before .before .before .before .load-tail in
-    let granted = c .before .before .before .before .before .before .before .before .before .before .load-grant in
-    let filled = c .before .before .before .before .before .before .before .before .fill in
-    let long = ap length (loaded .ensures) ∙ c .before .before .before .before .before .before .before .before .before .before .before .before .before .before .before .before .if1 .left in
-    step-small (writerFrom (start .args .format) (start .args .len) (loaded .result)) l (granted .result) (length d) long (filled .result) (filled .ensures .0)
+    let at-fill = c .before .before .before .before .before .before .before .before .before in
+    let loaded = at-fill .before .before .before .load-tail in
+    let start = c .before .before .before .before .before .before .before .before .before .before .before .before .before .before .before .before .before .before .before .before .before .before in
+    let long = ap length (loaded .ensures) ∙ c .before .before .before .before .before .before .before .before .before .before .before .before .before .before .before .before .before .if1 .left in
+    step-small (writerFrom (start .args .format) (start .args .len) (loaded .result)) (start .args .list .now) (at-fill .before .before .load-grant .result) (length (start .args .container .now)) long (at-fill .fill .result) (at-fill .fill .ensures .0)
 
 same-length : tie.Need-same-length
 same-length c = search needs
@@ -85,18 +83,21 @@ same-length-2 c = search needs
 
 returns-4 : tie.Need-returns-4
 returns-4 c =
-    let start = c .before .before .before .before .before .before .before .before .before .before .before .before .before .before .before .before .before .before .before .before .before .before in
+    let start = c .before .before .before .before .before .before .before .before .before .before .before .before .before .before .before .before .before .before .before .before .before .before .before in
     let t = start .args .tail .now in
     let b = start .args .grant .now in
     let l = start .args .list .now in
     let d = start .args .container .now in
-    let loaded = c .before .before .before .before .before .before .before .before .before .before .before .before .load-tail in
-    let granted = c .before .before .before .before .before .before .before .before .before .before .before .load-grant in
-    let filled = c .before .before .before .before .before .before .before .before .before .fill in
-    let right = right-sizes t b (c .before .before .before .before .before .before .before .before .before .before .before .before .before .before .before .before .before .if1 .left) (c .before .before .before .before .before .before .before .before .before .before .before .before .before .before .before .before .if2 .left) (c .before .before .before .before .before .before .before .before .before .before .before .before .before .before .if3 .left) in (
+    let loaded = c .before .before .before .before .before .before .before .before .before .before .before .before .before .load-tail in
+    let granted = c .before .before .before .before .before .before .before .before .before .before .before .before .load-grant in
+    let filled = c .before .before .before .before .before .before .before .before .before .before .fill in
+    let whole = c .before .before .before .before .before .before .before .before .before .before .before .before .before .before .before .before .before .before .if1 .left in
+    let right = right-sizes t b whole (c .before .before .before .before .before .before .before .before .before .before .before .before .before .before .before .before .before .if2 .left) (c .before .before .before .before .before .before .before .before .before .before .before .before .before .before .before .if3 .left) in
+    let long : length (filled .result .writer .tail) ≡ 100 = search needs in
+    let stored = c .before .before .before .copy-into .ensures ∙ copied-over (filled .result .writer .tail) t (long ∙ sym whole) in (
       code-sized (start .args .format) (start .args .len) t b l right (loaded .result) (loaded .ensures) (granted .result) (granted .ensures) (length d) (filled .result) (filled .ensures .0) _ (c .encode-answer .ensures),
       (
-        tail-sized (start .args .format) (start .args .len) t b l right (loaded .result) (loaded .ensures) (granted .result) (granted .ensures) (length d) (filled .result) (filled .ensures .0) _ (c .before .before .before .store-tail .ensures),
+        tail-sized (start .args .format) (start .args .len) t b l right (loaded .result) (loaded .ensures) (granted .result) (granted .ensures) (length d) (filled .result) (filled .ensures .0) _ stored,
         container-sized (start .args .format) (start .args .len) t b l right (loaded .result) (loaded .ensures) (granted .result) (granted .ensures) d _ (filled .ensures .1),
       ),
     )
@@ -115,7 +116,8 @@ c2c-fill-spec =
     load-tail-requires
     load-grant-requires
     fill-requires
-    store-tail-requires
+    slice-aggregate-copy-into
+    copy-into-requires
     encode-answer-requires
     same-length
     same-length-2

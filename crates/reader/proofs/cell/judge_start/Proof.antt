@@ -77,8 +77,8 @@ returns-4 c =
     let first = second .before in
     misheaded _ _ (first .before .before .args .part .now) (first .byte-at .ensures) (second .byte-at2 .ensures) (size .measure-code .ensures) (allowed .before .if1 .left) (allowed .may-start .ensures) (third .before .if2 .left) (headed-is headed) (c .if4 .taken)
 
-has-zero-rest-requires : tie.Need-has-zero-rest-requires
-has-zero-rest-requires c κs = search needs
+is-zero-from-requires : tie.Need-is-zero-from-requires
+is-zero-from-requires c κs = search needs
 
 returns-5 : tie.Need-returns-5
 returns-5 c =
@@ -89,7 +89,7 @@ returns-5 c =
     let size = allowed .before .before in
     let second = size .before in
     let first = second .before in
-    start-not _ _ (first .before .before .args .part .now) (first .byte-at .ensures) (second .byte-at2 .ensures) (size .measure-code .ensures) (allowed .before .if1 .left) (allowed .may-start .ensures) (third .before .if2 .left) (headed-is headed) (rest .before .if4 .left) (rest .has-zero-rest .ensures) (c .if5 .taken)
+    start-not _ _ (first .before .before .args .part .now) (first .byte-at .ensures) (second .byte-at2 .ensures) (size .measure-code .ensures) (allowed .before .if1 .left) (allowed .may-start .ensures) (third .before .if2 .left) (headed-is headed) (rest .before .if4 .left) (rest .is-zero-from .ensures) (c .if5 .taken)
 
 mark-start-requires : tie.Need-mark-start-requires
 mark-start-requires c κs = search needs
@@ -103,7 +103,7 @@ returns-6 c =
     let size = allowed .before .before in
     let second = size .before in
     let first = second .before in
-    start-fine _ _ (first .before .before .args .part .now) (first .byte-at .ensures) (second .byte-at2 .ensures) (size .measure-code .ensures) (allowed .before .if1 .left) (allowed .may-start .ensures) (third .before .if2 .left) (headed-is headed) (rest .before .if4 .left) (rest .has-zero-rest .ensures) (c .before .if5 .left) (c .mark-start .ensures)
+    start-fine _ _ (first .before .before .args .part .now) (first .byte-at .ensures) (second .byte-at2 .ensures) (size .measure-code .ensures) (allowed .before .if1 .left) (allowed .may-start .ensures) (third .before .if2 .left) (headed-is headed) (rest .before .if4 .left) (rest .is-zero-from .ensures) (c .before .if5 .left) (c .mark-start .ensures)
 
 pub judge-start-spec : {M : Type 1} → statement M
 judge-start-spec =
@@ -120,7 +120,7 @@ judge-start-spec =
     returns-3
     keeps-grant-requires
     returns-4
-    has-zero-rest-requires
+    is-zero-from-requires
     returns-5
     mark-start-requires
     returns-6)

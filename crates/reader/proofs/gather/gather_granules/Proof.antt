@@ -4,7 +4,7 @@ use Prim.Native.Nat.{_-_}
 use native.Mathlib.Omega.{arith}
 use mathlib.Core.Path.{_∙_}
 use mathlib.Core.Logic.{⊎-elim}
-use Rattle.reader.proofs.GatherLaws.{Gathering, gathering-none, gathering-room, gathering-part, gathering-more, gathering-over, gathering-all}
+use Rattle.reader.proofs.GatherLaws.{Gathering, gathering-none, gathering-room, gathering-more, gathering-over, gathering-all}
 use Rattle.reader.proofs.gather.gather_granules.Statement.{statement}
 use Rattle.reader.proofs.gather.gather_granules.Tie as tie
 
@@ -29,20 +29,17 @@ locate-granule-requires c κs = tt
 add-behind : tie.Need-add-behind Inv-loop μ-loop
 add-behind c = omega arith
 
-sub-copy-part : tie.Need-sub-copy-part Inv-loop μ-loop
-sub-copy-part c = omega arith
+sub-copy-into : tie.Need-sub-copy-into Inv-loop μ-loop
+sub-copy-into c = omega arith
 
-part-copy-part-start : tie.Need-part-copy-part-start Inv-loop μ-loop
-part-copy-part-start c = search needs
+part-copy-into-start : tie.Need-part-copy-into-start Inv-loop μ-loop
+part-copy-into-start c = search needs
 
-part-copy-part-end : tie.Need-part-copy-part-end Inv-loop μ-loop
-part-copy-part-end c = search needs
+part-copy-into-end : tie.Need-part-copy-into-end Inv-loop μ-loop
+part-copy-into-end c = search needs
 
-copy-part-requires : tie.Need-copy-part-requires Inv-loop μ-loop
-copy-part-requires c κs =
-    let h = c .before .before .before .before .before .before in
-    let s = h .before .before .before in
-    gathering-part _ _ _ _ _ _ _ _ _ (s .pre .0 .0) (s .pre .0 .1) (s .pre .1) (h .loop .inv) (c .before .before .before .before .before .loop-test .taken) _ (c .before .before .before .before .measure-granule .ensures) (c .before .before .before .if1 .taken) (c .before .before .locate-granule .result)
+copy-into-requires : tie.Need-copy-into-requires Inv-loop μ-loop
+copy-into-requires c κs = search needs
 
 add-end : tie.Need-add-end Inv-loop μ-loop
 add-end c =
@@ -86,10 +83,10 @@ gather-granules-spec =
     measure-granule-requires
     locate-granule-requires
     add-behind
-    sub-copy-part
-    part-copy-part-start
-    part-copy-part-end
-    copy-part-requires
+    sub-copy-into
+    part-copy-into-start
+    part-copy-into-end
+    copy-into-requires
     add-end
     add-k
     loop-less

@@ -4,7 +4,7 @@ use mathlib.Core.List.{List}
 use native.Mathlib.Omega.{arith}
 use Rattle.container.specs.Layout.{formatOf}
 use Rattle.reader.specs.Tracking.{gathered}
-use Rattle.reader.proofs.GatherLaws.{front-fits, behind-fits, both-put}
+use Rattle.reader.proofs.GatherLaws.{behind-fits, both-put}
 use borrow.Author.Needs.{needs}
 use Rattle.reader.proofs.gather.gather_message.Statement.{statement}
 use Rattle.reader.proofs.gather.gather_message.Tie as tie
@@ -13,19 +13,17 @@ use Rattle.reader.proofs.gather.gather_message.Tie as tie
 abbrev behind : tie.Start → List ℕ
 behind s = gathered (formatOf (s .args .format)) (s .args .container .now) (s .args .track .from) (s .args .g - s .args .track .from)
 
-sub-copy-part : tie.Need-sub-copy-part
-sub-copy-part c = search needs
+sub-copy-into : tie.Need-sub-copy-into
+sub-copy-into c = search needs
 
-part-copy-part-start : tie.Need-part-copy-part-start
-part-copy-part-start c = search needs
+part-copy-into-start : tie.Need-part-copy-into-start
+part-copy-into-start c = search needs
 
-part-copy-part-end : tie.Need-part-copy-part-end
-part-copy-part-end c = search needs
+part-copy-into-end : tie.Need-part-copy-into-end
+part-copy-into-end c = search needs
 
-copy-part-requires : tie.Need-copy-part-requires
-copy-part-requires c κs =
-    let s = c .before .before .before .before .before in
-    front-fits (s .args .carry .now) (s .args .track .kept) (s .args .at) (behind s) (s .args .out .now) (s .pre .0 .1) (s .pre .1 .1)
+copy-into-requires : tie.Need-copy-into-requires
+copy-into-requires c κs = search needs
 
 sub-gather-granules : tie.Need-sub-gather-granules
 sub-gather-granules c = search needs
@@ -37,7 +35,7 @@ gather-granules-requires : tie.Need-gather-granules-requires
 gather-granules-requires c κs =
     let s = c .before .before .before .before .before .before .before .before .before in (
       (s .pre .0 .0, omega arith),
-      behind-fits (s .args .carry .now) (s .args .track .kept) (s .args .at) (behind s) (s .args .out .now) (s .pre .0 .1) (s .pre .1 .1) _ (c .before .before .before .copy-part .ensures),
+      behind-fits (s .args .carry .now) (s .args .track .kept) (s .args .at) (behind s) (s .args .out .now) (s .pre .0 .1) (s .pre .1 .1) _ (c .before .before .before .copy-into .ensures),
     )
 
 same-length : tie.Need-same-length
@@ -46,16 +44,16 @@ same-length c = search needs
 returns : tie.Need-returns
 returns c =
     let s = c .before .before .before .before .before .before .before .before .before .before .before .before in
-    both-put (s .args .carry .now) (s .args .track .kept) (s .args .at) (behind s) (s .args .out .now) (s .pre .0 .1) (s .pre .1 .1) _ (c .before .before .before .before .before .before .copy-part .ensures) _ (c .before .before .gather-granules .ensures)
+    both-put (s .args .carry .now) (s .args .track .kept) (s .args .at) (behind s) (s .args .out .now) (s .pre .0 .1) (s .pre .1 .1) _ (c .before .before .before .before .before .before .copy-into .ensures) _ (c .before .before .gather-granules .ensures)
 
 pub gather-message-spec : {M : Type 1} → statement M
 gather-message-spec =
     tie.close
     (tie.spec
-    sub-copy-part
-    part-copy-part-start
-    part-copy-part-end
-    copy-part-requires
+    sub-copy-into
+    part-copy-into-start
+    part-copy-into-end
+    copy-into-requires
     sub-gather-granules
     add-gather-granules
     gather-granules-requires

@@ -15,8 +15,8 @@ Inv-loop format grant tail list container₀ cursor₀ g₀ container cursor g =
 abbrev μ-loop : tie.MeasureT-loop
 μ-loop format grant tail list container₀ cursor₀ g₀ container cursor g = 12 - g
 
-clear-container-requires : tie.Need-clear-container-requires Inv-loop μ-loop
-clear-container-requires c κs = search needs
+clear-requires : tie.Need-clear-requires Inv-loop μ-loop
+clear-requires c κs = search needs
 
 begin-requires : tie.Need-begin-requires Inv-loop μ-loop
 begin-requires c κs = search needs
@@ -24,7 +24,7 @@ begin-requires c κs = search needs
 loop-holds : tie.Need-loop-holds Inv-loop μ-loop
 loop-holds c =
     let start = c .before .before .before .before .before .before .before .before in
-    laid-none (formatOf (start .args .format)) (start .args .grant) (start .args .tail .now) (start .args .list .now) (c .begin .result) _ _ (c .begin .ensures) (start .pre .0 .0) (c .before .before .before .clear-container .ensures)
+    laid-none (formatOf (start .args .format)) (start .args .grant) (start .args .tail .now) (start .args .list .now) (c .begin .result) _ _ (c .begin .ensures) (start .pre .0 .0) (c .before .before .before .clear .ensures)
 
 write-granule-requires : tie.Need-write-granule-requires Inv-loop μ-loop
 write-granule-requires c κs =
@@ -60,7 +60,7 @@ fill-granules-spec =
     (tie.spec
     Inv-loop
     μ-loop
-    clear-container-requires
+    clear-requires
     begin-requires
     loop-holds
     write-granule-requires

@@ -1,11 +1,11 @@
--- `reader::cell::has_zero_rest` meets its contract.
+-- `slices::bytes::is_zero_from` meets its contract.
 use mathlib.Core.Path.{ap, _∙_}
 use lib.ListN.{drop-of-length-le}
 use Rattle.lists.specs.Parts.{zeros}
 use Rattle.lists.proofs.PartLaws.{rest-is}
 use borrow.Author.Needs.{needs}
-use Rattle.reader.proofs.cell.has_zero_rest.Statement.{statement}
-use Rattle.reader.proofs.cell.has_zero_rest.Tie as tie
+use Rattle.slices.proofs.bytes.is_zero_from.Statement.{statement}
+use Rattle.slices.proofs.bytes.is_zero_from.Tie as tie
 
 sub-is-zero : tie.Need-sub-is-zero
 sub-is-zero c = search needs
@@ -25,7 +25,7 @@ returns c = let start = c .before .before .before .before in c .is-zero .ensures
 returns-2 : tie.Need-returns-2
 returns-2 c = rw (drop-of-length-le (c .before .before .args .part .now) {i = c .before .before .args .from} (c .if1 .left))
 
-pub has-zero-rest-spec : {M : Type 1} → statement M
-has-zero-rest-spec =
+pub is-zero-from-spec : {M : Type 1} → statement M
+is-zero-from-spec =
     tie.close
     (tie.spec sub-is-zero part-is-zero-start part-is-zero-end is-zero-requires returns returns-2)
