@@ -21,7 +21,7 @@ use Rattle.ledger.specs.declared.ledger.Step.{Step}
 use Rattle.ledger.specs.declared.ledger.Answer.{Answer}
 use Rattle.ledger.specs.declared.ledger.Answer.the-variants.{Accepted, Refused}
 use Rattle.ledger.specs.declared.entries.Run.{Run}
-use Rattle.ledger.proofs.AnswerLaws.{accepted-valid}
+use Rattle.ledger.proofs.AnswerLaws.{accepted-valid, refused-same}
 
 -- ---- one entry
 
@@ -110,6 +110,10 @@ module _ (first : Ledger) (most : ℕ) (l : List ℕ) (s : Ledger) (n at : ℕ) 
       pub running-refused : (c : Cause) (p : ℕ) → t .answer ≡ Refused c p → halted s n at (Refused c p) ≡ running most first 0 0 l
       running-refused c p h =
           sym (run-refused s n at l (most - (n + 1)) v d u e c p (answered (Refused c p) h)) ∙ ap (λ (k : ℕ). running k s n at l) one-left ∙ r .rest
+
+      -- a refusal hands back the ledger handed in
+      pub running-back : (c : Cause) (p : ℕ) → t .answer ≡ Refused c p → t .ledger ≡ s
+      running-back c p h = ap (λ (x : Step). x .ledger) q ∙ refused-same s d (part (at + u) 256 l) c p (answered (Refused c p) h)
 
       pub running-more : t .answer ≡ Accepted → Running first most l (t .ledger) (n + 1) (at + (u + 256))
       running-more h =

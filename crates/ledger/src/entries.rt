@@ -53,10 +53,10 @@ fn audit_framed(ledger: Ledger, bytes: &[u8], most: u32) -> Run
         if !state.rests(direction, &bytes[begin..end]) {
             let step = state.audit_contents(direction, &bytes[begin..end]);
             let answer = step.answer;
+            state = step.ledger;
             if let Answer::Refused { cause: _, place: _ } = answer {
                 return stop_run(state, count, at, answer);
             }
-            state = step.ledger;
         }
         count += 1;
         at = end;

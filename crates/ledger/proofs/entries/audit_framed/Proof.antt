@@ -15,8 +15,8 @@ use Rattle.ledger.specs.Run.{halted}
 use Rattle.ledger.specs.declared.ledger.Ledger.{Ledger}
 use Rattle.ledger.specs.declared.ledger.Step.{Step}
 use Rattle.ledger.specs.declared.ledger.Answer.{Answer}
-use Rattle.ledger.specs.declared.ledger.Answer.the-variants.{Accepted}
-use Rattle.ledger.proofs.RunLaws.{stepAt, Running, running-none, running-full, running-ends, entry-within, entry-direction, running-refused, running-more, framed-here, entry-is, entry-long}
+use Rattle.ledger.specs.declared.ledger.Answer.the-variants.{Accepted, Refused}
+use Rattle.ledger.proofs.RunLaws.{stepAt, Running, running-none, running-full, running-ends, entry-within, entry-direction, running-refused, running-back, running-more, framed-here, entry-is, entry-long}
 use Rattle.ledger.proofs.entries.audit_framed.Statement.{statement}
 use Rattle.ledger.proofs.entries.audit_framed.Tie as tie
 
@@ -137,14 +137,18 @@ stop-run-requires-2 c κs = search needs
 
 returns-2 : tie.Need-returns-2 Inv-loop μ-loop
 returns-2 c =
-    let e = c .before .before .before .before .before .before .before .before in
+    let e = c .before .before .before .before .before .before .before .before .before in
     let at-loop = e .before .before .before .before .before .before in
-    let audited = c .before .before .before .audit-contents in
+    let audited = c .before .before .before .before .audit-contents in
+    let refusal = c .before .enum-told .given .0 in
     let told = c .before .enum-told .given .1 in
+    let more = e .before .before .before .before .before .loop-test .taken in
+    let step = entry-is (at-loop .loop .state) (bytes e) (here e) (side e) (width e) (audited .ensures) in
     c .stop-run2 .ensures
-    ∙ ap (λ (a : Answer). halted (at-loop .loop .state) (at-loop .loop .count) (at-loop .loop .at) a) told
-    ∙ running-refused _ _ _ _ _ _ (at-loop .loop .inv) (e .before .before .before .before .before .loop-test .taken) _ _ _ (whole e) (audited .result)
-    (entry-is (at-loop .loop .state) (bytes e) (here e) (side e) (width e) (audited .ensures)) _ _ told
+    ∙ ap (λ (a : Answer). halted (audited .result .ledger) (at-loop .loop .count) (at-loop .loop .at) a) told
+    ∙ ap (λ (s : Ledger). halted s (at-loop .loop .count) (at-loop .loop .at) (Refused (refusal .0) (refusal .1 .0)))
+    (running-back _ _ _ _ _ _ (at-loop .loop .inv) more _ _ _ (whole e) (audited .result) step _ _ told)
+    ∙ running-refused _ _ _ _ _ _ (at-loop .loop .inv) more _ _ _ (whole e) (audited .result) step _ _ told
 
 enum-told-2 : tie.Need-enum-told-2 Inv-loop μ-loop
 enum-told-2 c = search needs
@@ -161,7 +165,7 @@ loop-again c =
     let s = e .before .before .before .before .before .before .loop .state in
     let seen = c .before .rests in
     ⊎-elim
-    (λ w. gone-on e (w .2 .result) (entry-is s (bytes e) (here e) (side e) (width e) (w .2 .ensures)) (w .4 .given .1) (w .6))
+    (λ w. gone-on e (w .2 .result) (entry-is s (bytes e) (here e) (side e) (width e) (w .2 .ensures)) (w .5 .given .1) (w .6))
     (λ w. gone-on e (unchanged s) (entry-is s (bytes e) (here e) (side e) (width e) (seen .ensures .1 (not-false (seen .result) (w .0 .left)))) refl (w .1))
     (c .if1 .came)
 
