@@ -29,8 +29,9 @@ use Rattle.reader.proofs.NextLaws.{carry-part, valid-short}
 use Rattle.pools.specs.Pools.{allMessages, allGrants, grantChecks, chargedTo, paidTo, grantedBy, grantedTo}
 use Rattle.ledger.specs.Audit.{receiverOf, readerOf, ledgerOk, opposite, begun, granted, heldChecks, roomChecks, auditChecks, auditing}
 use Rattle.pools.specs.Rows.{row, nested, flattened, entryOf, rows}
-use Rattle.pools.specs.Tallies.{startsChecks, startsPay, crdtChecks, crdtGives, Tallied, begunTally, grantsGive, grantedTally}
-use Rattle.ledger.specs.Counting.{shortChecks, overChecks, settledHeld, settledOpen, entered, bookChecks, settling}
+use Rattle.pools.specs.TalliesMirror.{startsChecks, startsPay, crdtChecks, crdtGives, Tallied}
+use Rattle.pools.specs.Tallies.{begunTally, grantsGive, grantedTally}
+use Rattle.ledger.specs.CountingMirror.{shortChecks, overChecks, settledHeld, settledOpen, entered, bookChecks, settling}
 use Rattle.pools.specs.declared.receiver.Receiver.{Receiver}
 use Rattle.ledger.specs.declared.ledger.Ledger.{Ledger}
 use Rattle.ledger.specs.declared.ledger.Answer.the-variants as answer

@@ -11,7 +11,7 @@ use borrow.Author.Tests.{eq-eqb, ne-eqb}
 use Rattle.lists.proofs.Fill.{grown, grown-more, grown-all}
 use Rattle.cause.specs.declared.Cause.the-variants.{BegunOverGranted, GrantedOverCapacity}
 use Rattle.pools.specs.Rows.{row, entryOf, rows}
-use Rattle.ledger.specs.Counting.{shortChecks, overChecks, rowsOk, settledHeld, settledOpen}
+use Rattle.ledger.specs.CountingMirror.{shortChecks, overChecks, rowsOk, settledHeld, settledOpen}
 use Rattle.pools.specs.declared.kinds.Credits.{Credits}
 use Rattle.pools.proofs.PoolLoops.{Tests, Checks}
 use Rattle.pools.proofs.RowLaws.{length-row, row-at, row-same}

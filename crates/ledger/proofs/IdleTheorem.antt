@@ -30,7 +30,7 @@ use Rattle.reader.proofs.CarryLaws.{reader-ok}
 use Rattle.reader.proofs.LinkLaws.{judging-same}
 use Rattle.pools.specs.Pools.{capacitiesOk, allMessages, allGrants, grantsIn, grantedTo, paidTo}
 use Rattle.ledger.specs.Audit.{receiverOf, readerOf, heldOf, openOf, ledgerOk, opposite, begun, finished, granted, heldChecks, roomChecks, auditChecks, heldAfter, openAfter, nextLedger, auditing}
-use Rattle.ledger.specs.Counting.{resting}
+use Rattle.ledger.specs.CountingMirror.{resting}
 use Rattle.ledger.specs.Idle.{idleFrom}
 use Rattle.ledger.specs.declared.ledger.Ledger.{Ledger}
 use Rattle.ledger.specs.declared.ledger.Answer.the-variants as answer

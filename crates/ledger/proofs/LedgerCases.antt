@@ -16,7 +16,7 @@ use Rattle.reader.specs.declared.reader.Reader.{Reader}
 use Rattle.pools.specs.Pools.{receiverOk, paymentChecks, messageChecks, chargedTo}
 use Rattle.ledger.specs.Audit.{receiverOf, readerOf, poolsOk, directionOk}
 use Rattle.pools.specs.Rows.{row, nested}
-use Rattle.ledger.specs.Counting.{rowsOk, pooled}
+use Rattle.ledger.specs.CountingMirror.{rowsOk, pooled}
 use Rattle.pools.specs.declared.receiver.Receiver.{Receiver}
 use Rattle.ledger.specs.declared.ledger.Ledger.{Ledger}
 use Rattle.pools.proofs.RowLaws.{row-at}

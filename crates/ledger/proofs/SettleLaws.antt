@@ -21,7 +21,7 @@ use Rattle.reader.specs.declared.reader.Reader.{Reader}
 use Rattle.pools.specs.Pools.{allMessages, allGrants, chargedTo, paidTo, grantedTo}
 use Rattle.ledger.specs.Audit.{receiverOf, readerOf, ledgerOk, opposite, begun, granted, heldChecks, roomChecks, auditChecks, heldAfter, openAfter, nextLedger, answerOf, auditing}
 use Rattle.pools.specs.Rows.{row, table, nested, flattened, entryOf, rows}
-use Rattle.ledger.specs.Counting.{shortChecks, overChecks, settledHeld, settledOpen, entered, bookChecks, settling}
+use Rattle.ledger.specs.CountingMirror.{shortChecks, overChecks, settledHeld, settledOpen, entered, bookChecks, settling}
 use Rattle.ledger.specs.declared.ledger.Ledger.{Ledger}
 use Rattle.pools.proofs.RowLaws.{row-at, row-equal}
 use Rattle.ledger.proofs.AcceptedLaws.{Accepted, accepted-by, open-carried, open-next}

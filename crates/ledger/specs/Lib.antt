@@ -2,7 +2,7 @@ pub mod Entries
 pub mod Audit
 pub mod ValidLedger
 pub mod Idle
-pub mod Counting
+pub mod CountingMirror
 pub mod Run
 pub mod Calls
 pub mod RunRules

@@ -4,7 +4,7 @@ ghost use mathlib.Core.List.{[]};
 ghost use Prim.Native.Nat.{ℕ, _+_, _-_, _≤_, _<_, _^_};
 ghost use lib.ListN.{getD};
 ghost use Rattle.cause.specs.Checks.{firstFault};
-ghost use Rattle.ledger.specs.Counting.{shortChecks, overChecks, rowsOk, settledHeld, settledOpen};
+ghost use Rattle.ledger.specs.CountingMirror.{shortChecks, overChecks, rowsOk, settledHeld, settledOpen};
 ghost use Rattle.pools.specs.Rows.{entryOf, rows};
 use cause::Cause;
 use cause::Verdict;

@@ -11,7 +11,7 @@ ghost use Rattle.container.specs.Grants.{headerGrant};
 ghost use Rattle.reader.specs.Reading.{judgeChecks, nextReader, carried};
 ghost use Rattle.pools.specs.Rows.{flattened};
 ghost use Rattle.ledger.specs.Audit.{receiverOf, readerOf, directionOk, ledgerOk, configured, opening, unchanged, auditing, reported};
-ghost use Rattle.ledger.specs.Counting.{pooled, resting, settling, entered};
+ghost use Rattle.ledger.specs.CountingMirror.{pooled, resting, settling, entered};
 use crate::books::judge_begun;
 use crate::books::judge_granted;
 use crate::books::keeps_books;

@@ -12,7 +12,7 @@ use Rattle.cause.specs.declared.Cause.the-variants.{InvalidState}
 use Rattle.ledger.specs.Audit.{ledgerOk}
 use Rattle.log.specs.Log.{set-up, settingOf, entriesFrom, verdictBy}
 use Rattle.log.specs.Stream.{most, stoppedAt, readFrom, started, startBy, beginning, Running, validState, consuming, verdictFrom}
-use Rattle.log.specs.Concluding.{countsOk, readOn}
+use Rattle.log.specs.ConcludingMirror.{countsOk, readOn}
 use Rattle.log.specs.declared.log.LogVerdict.{LogVerdict}
 use Rattle.log.specs.declared.log.LogVerdict.the-variants.{Refused}
 use Rattle.log.specs.declared.log.Outcome.the-variants.{More, Over}

@@ -29,7 +29,7 @@ use Rattle.ledger.proofs.ValidLedgerLaws.{ledger-exactly}
 use Rattle.ledger.proofs.RunLaws.{Bounded, over-bounded}
 use Rattle.ledger.proofs.RunRuleLaws.{run-follows}
 use Rattle.log.specs.Stream.{most, stoppedAt, readFrom}
-use Rattle.log.specs.Concluding.{concluding, readOn}
+use Rattle.log.specs.ConcludingMirror.{concluding, readOn}
 use Rattle.log.specs.LogRules.{Enough, Says, Goes}
 use Rattle.log.specs.LogRules.Says.{accepts, long, broken, cut, refuses, asks}
 use Rattle.log.specs.declared.log.LogVerdict.the-variants.{Accepted, Refused}

@@ -16,7 +16,7 @@ use Rattle.record.specs.declared.number.Number.the-variants.{Broken, Value}
 use Rattle.ledger.specs.Audit.{ledgerOk, auditing}
 use Rattle.log.specs.Log.{Next, over, onward, nextOf, framed, judged}
 use Rattle.log.specs.Stream.{most, Running, validState}
-use Rattle.log.specs.Concluding.{countsOk}
+use Rattle.log.specs.ConcludingMirror.{countsOk}
 use Rattle.ledger.specs.declared.ledger.Ledger.{Ledger}
 use Rattle.ledger.specs.declared.ledger.Answer.{Answer}
 use Rattle.ledger.specs.declared.ledger.Answer.the-variants as answer

@@ -1,6 +1,6 @@
 pub mod Log
 pub mod Stream
-pub mod Concluding
+pub mod ConcludingMirror
 pub mod Cutting
 pub mod LogRules
 pub mod WholeLog

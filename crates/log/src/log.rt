@@ -4,7 +4,7 @@ ghost use Prim.Native.Nat.{_+_, _*_, _≤_};
 ghost use lib.ListN.{length};
 ghost use Rattle.log.specs.Log.{settingOf};
 ghost use Rattle.log.specs.Stream.{most, stoppedAt, startBy, beginning, consuming, freshReader};
-ghost use Rattle.log.specs.Concluding.{concluding, countsOk, readOn};
+ghost use Rattle.log.specs.ConcludingMirror.{concluding, countsOk, readOn};
 use crate::configuration::read_configuration;
 use crate::configuration::start_ledger;
 use cause::Cause;

@@ -20,7 +20,7 @@ use Rattle.message.specs.Heads.{classOf}
 use Rattle.message.specs.Charges.{chargesBy}
 use Rattle.pools.specs.Pools.{paymentChecks}
 use Rattle.pools.specs.Rows.{raised}
-use Rattle.pools.specs.Tallies.{firstAt, secondAt, startedAt, paidAt, startChecks, startsChecks, startsPay}
+use Rattle.pools.specs.TalliesMirror.{firstAt, secondAt, startedAt, paidAt, startChecks, startsChecks, startsPay}
 use Rattle.pools.specs.declared.receiver.Receiver.{Receiver}
 use Rattle.pools.proofs.TallyLaws.{raised-same, zero-at, zero-counts, payable, taken, taken-most}
 use Rattle.pools.proofs.PassLaws.{never-sound, Walk, Walks, Walking}

@@ -16,7 +16,7 @@ use Rattle.message.specs.Heads.{isMisc, miscBy, crdtGrant}
 use Rattle.message.specs.Charges.{chargesBy, listed, charges}
 use Rattle.placement.specs.Cells.{cells, cellAt, after, startings}
 use Rattle.pools.specs.Pools.{paymentChecks, messageChecks, allMessages, allGrants, grantChecks, chargedTo, paidTo, grantedBy, grantedTo, grantsIn}
-use Rattle.pools.specs.Tallies.{firstAt, secondAt, startsChecks, startsPay, grantsAt, grantAt, crdtChecks, crdtGives}
+use Rattle.pools.specs.TalliesMirror.{firstAt, secondAt, startsChecks, startsPay, grantsAt, grantAt, crdtChecks, crdtGives}
 use Rattle.pools.specs.declared.receiver.Receiver.{Receiver}
 
 pick-and : {A : Type 0} (a b : Bool) (x y : A) → pick (a && b) x y ≡ pick a (pick b x y) y

@@ -22,7 +22,7 @@ use Rattle.container.specs.declared.grant.Grant.{Grant}
 use Rattle.message.specs.Heads.{miscBy, crdtGrant}
 use Rattle.pools.specs.Pools.{grantChecks, grantedBy}
 use Rattle.pools.specs.Rows.{raised}
-use Rattle.pools.specs.Tallies.{firstAt, secondAt, startedAt, grantsAt, grantAt, crdtChecks, crdtGives, Tallied}
+use Rattle.pools.specs.TalliesMirror.{firstAt, secondAt, startedAt, grantsAt, grantAt, crdtChecks, crdtGives, Tallied}
 use Rattle.pools.specs.declared.tally.Tally.{Tally}
 use Rattle.pools.specs.declared.receiver.Receiver.{Receiver}
 use Rattle.pools.proofs.RowLaws.{row-at}

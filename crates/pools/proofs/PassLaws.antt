@@ -14,10 +14,10 @@ use Rattle.cause.specs.declared.Cause.the-variants.{ContainerLength, HeaderGran
 use Rattle.cause.specs.declared.Verdict.{Verdict}
 use Rattle.cause.specs.declared.Verdict.the-variants.{Sound, Faulty}
 use Rattle.cause.proofs.CheckLaws.{first-append}
-use Rattle.pools.specs.Rows.{raised, Small}
-use Rattle.pools.specs.Rows.{row}
+use Rattle.pools.specs.Rows.{raised, Small, row}
 use Rattle.pools.specs.Pools.{grantChecks}
-use Rattle.pools.specs.Tallies.{startsChecks, startsPay, crdtChecks, Tallied, tallyOf, begunChecks, begunTally, grantsGive, grantedChecks, grantedTally}
+use Rattle.pools.specs.TalliesMirror.{startsChecks, startsPay, crdtChecks, Tallied}
+use Rattle.pools.specs.Tallies.{tallyOf, begunChecks, begunTally, grantsGive, grantedChecks, grantedTally}
 use Rattle.pools.specs.declared.receiver.Receiver.{Receiver}
 use Rattle.pools.specs.declared.tally.Tally.{Tally}
 use Rattle.pools.proofs.RowLaws.{row-same, row-equal}

@@ -13,7 +13,7 @@ use Rattle.message.specs.HeadRules.{among}
 use Rattle.message.specs.Charges.{sharedCrdt, reqPool, pushPool, chargesBy}
 use Rattle.message.proofs.HeadRuleLaws.{each-of}
 use Rattle.pools.specs.Rows.{raised}
-use Rattle.pools.specs.Tallies.{poolBy}
+use Rattle.pools.specs.TalliesMirror.{poolBy}
 use Rattle.pools.proofs.TallyLaws.{oneMore, taken, raised-same, raised-twice, Counts, counts-one, one-fits}
 
 -- the credits that a type pays of its pool, and for push data

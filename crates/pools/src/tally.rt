@@ -9,7 +9,7 @@ ghost use Rattle.lists.specs.Pick.{pick};
 ghost use Rattle.message.specs.Charges.{reqPool, datPool, listed, chargesBy, charges};
 ghost use Rattle.pools.specs.Pools.{chargedTo};
 ghost use Rattle.pools.specs.Rows.{row, raised, Small};
-ghost use Rattle.pools.specs.Tallies.{poolBy, startedAt};
+ghost use Rattle.pools.specs.TalliesMirror.{poolBy, startedAt};
 use crate::kinds::Credits;
 use crate::kinds::claim_row;
 use cause::Cause;

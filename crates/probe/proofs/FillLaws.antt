@@ -27,7 +27,7 @@ use Rattle.record.specs.declared.list.First.the-variants.{Empty, Bad, Whole}
 use Rattle.record.proofs.RecordLaws.{first-within}
 use Rattle.writer.specs.Laying.{owesAfter, usedOf}
 use Rattle.writer.specs.Filling.{tailOf, writerOk, writerWith, callChecks, fillFault, answerOf, filling, fillBytes}
-use Rattle.writer.specs.Holding.{Sane, cursorAt}
+use Rattle.writer.specs.HoldingMirror.{Sane, cursorAt}
 use Rattle.writer.specs.declared.writer.Writer.{Writer}
 use Rattle.writer.specs.declared.writer.Answer.{Answer}
 use Rattle.writer.specs.declared.writer.Answer.the-variants.{Filled, Refused}

@@ -15,7 +15,7 @@ use Rattle.message.specs.Heads.{msgSize, sizeBy, wellHeaded}
 use Rattle.message.specs.Places.{placed, placedBy}
 use Rattle.reader.specs.declared.cell.Finding.{Finding}
 use Rattle.reader.specs.declared.cell.Finding.the-variants.{Fault, Mark}
-use Rattle.reader.specs.Tracking.{cellFrom, finding, startMark}
+use Rattle.reader.specs.TrackingMirror.{cellFrom, finding, startMark}
 
 module _ (fm : Format) (g : ℕ) (b : List ℕ) where
   pub twice : Fault StartInsideMessage ≡ finding fm g (cellFrom true true b)

@@ -11,7 +11,7 @@ use borrow.Author.Tests.{lt-ltb, le-ltb, le-leb, lt-leb, eq-eqb, ne-eqb, not-tru
 use Rattle.lists.proofs.Tests.{and-false}
 use Rattle.container.specs.Layout.{Format, start, wide, granule, bit}
 use Rattle.message.specs.Heads.{msgSize}
-use Rattle.reader.specs.Tracking.{gatheredMessage, endedBy, Ending}
+use Rattle.reader.specs.TrackingMirror.{gatheredMessage, endedBy, Ending}
 use Rattle.reader.specs.declared.track.Track.{Track}
 
 -- granule g of w bytes

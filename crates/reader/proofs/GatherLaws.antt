@@ -16,7 +16,7 @@ use Rattle.lists.proofs.Fill.{put-zeros}
 use Rattle.slices.proofs.CopyLaws.{copiedInto, copied-whole}
 use Rattle.container.specs.Layout.{Format, formatOf, start, wide, granule}
 use Rattle.container.proofs.Formats.{granule-length}
-use Rattle.reader.specs.Tracking.{gathered}
+use Rattle.reader.specs.TrackingMirror.{gathered}
 use Rattle.reader.proofs.TrackCases.{wide-part}
 
 module _ (fm : Format) (c : List ℕ) (s : ℕ) where

@@ -18,7 +18,7 @@ use Rattle.container.specs.Grants.{headerGrant, noCounts}
 use Rattle.container.specs.declared.grant.Grant.{Grant}
 use Rattle.placement.specs.Cells.{Cell, cellAt, after, cells}
 use Rattle.placement.specs.Checking.{headerChecks, granuleChecks, groupChecks, activationChecks, containerChecks}
-use Rattle.reader.specs.Tracking.{marksOf, markChecks, activationMarks, behindGranules, Scanned, Looked}
+use Rattle.reader.specs.TrackingMirror.{marksOf, markChecks, activationMarks, behindGranules, Scanned, Looked}
 use Rattle.reader.specs.declared.track.Track.{Track}
 use Rattle.reader.specs.declared.scan.Scan.{Scan}
 use Rattle.reader.proofs.MarkLaws.{groups-of, activations-of}

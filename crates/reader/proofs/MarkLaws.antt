@@ -20,7 +20,7 @@ use Rattle.message.specs.Places.{responsesBy, responses, miscsBy, miscs}
 use Rattle.message.proofs.PlaceLaws.{responses-most, miscs-most}
 use Rattle.placement.specs.Cells.{Cell}
 use Rattle.placement.specs.Checking.{populated, noGap, starting, sumOf, groupChecks, activations}
-use Rattle.reader.specs.Tracking.{markOf, marksOf, groupBy, markChecks, activationMarks}
+use Rattle.reader.specs.TrackingMirror.{markOf, marksOf, groupBy, markChecks, activationMarks}
 
 -- the counts of a mark, as the code has them, stay below an Activation's bit
 pub counts-most : (t : ℕ) {r m : ℕ} → r ≡ responsesBy t → m ≡ miscsBy t → 4 * r + 32 * m ≤ 40

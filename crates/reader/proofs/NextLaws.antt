@@ -20,7 +20,7 @@ use Rattle.placement.specs.Cells.{cells, carryAfter, endings, carryOk}
 use Rattle.placement.specs.Checking.{granuleChecks}
 use Rattle.placement.proofs.Keeps.{progress}
 use Rattle.reader.specs.Reading.{readerOk, carried, stateChecks, nextReader, records}
-use Rattle.reader.specs.Tracking.{trackOf, trackAt, inProgress, Begun, Looked}
+use Rattle.reader.specs.TrackingMirror.{trackOf, trackAt, inProgress, Begun, Looked}
 use Rattle.reader.specs.declared.reader.Reader.{Reader}
 use Rattle.reader.specs.declared.track.Track.{Track}
 use Rattle.reader.specs.declared.scan.Scan.{Scan}

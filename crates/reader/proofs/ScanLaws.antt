@@ -20,7 +20,7 @@ use Rattle.message.specs.Heads.{msgSize}
 use Rattle.placement.specs.Cells.{Cell, owed, cells}
 use Rattle.placement.specs.Checking.{starting, startsAlone, startKnown, startPlaced, startHeaded, restZero, cellChecks, granuleChecks}
 use Rattle.placement.proofs.Keeps.{progress, cellOf}
-use Rattle.reader.specs.Tracking.{trackOf, trackBy, trackAfter, trackAt, markOf, marksOf, cellFrom, findingOf, finding, Scanned, Begun}
+use Rattle.reader.specs.TrackingMirror.{trackOf, trackBy, trackAfter, trackAt, markOf, marksOf, cellFrom, findingOf, finding, Scanned, Begun}
 use Rattle.reader.specs.declared.track.Track.{Track}
 use Rattle.reader.specs.declared.cell.Finding.{Finding}
 use Rattle.reader.specs.declared.cell.Finding.the-variants.{Fault, Mark}

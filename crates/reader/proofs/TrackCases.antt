@@ -11,7 +11,7 @@ use Rattle.lists.specs.Pick.{pick}
 use Rattle.lists.proofs.Tests.{and-false}
 use Rattle.container.specs.Layout.{Format, start, wide, granule, bit}
 use Rattle.message.specs.Heads.{msgSize}
-use Rattle.reader.specs.Tracking.{noTrack, trackOf, trackBy, trackAfter}
+use Rattle.reader.specs.TrackingMirror.{noTrack, trackOf, trackBy, trackAfter}
 use Rattle.reader.specs.declared.track.Track.{Track}
 
 -- a carried message of which size and length are given

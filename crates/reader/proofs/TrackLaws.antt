@@ -19,7 +19,7 @@ use Rattle.message.proofs.HeadLaws.{size-append, size-of, size-most}
 use Rattle.placement.specs.Cells.{Cell, owed, cellAt, whole, after, ended, carryOk}
 use Rattle.placement.proofs.Keeps.{progress}
 use Rattle.placement.proofs.FirmLaws.{Firm, carry-firm, firm-left}
-use Rattle.reader.specs.Tracking.{noTrack, trackOf, trackAfter, trackAt, gathered, gatheredMessage, inProgress, endedBy, Ending, Begun}
+use Rattle.reader.specs.TrackingMirror.{noTrack, trackOf, trackAfter, trackAt, gathered, gatheredMessage, inProgress, endedBy, Ending, Begun}
 use Rattle.reader.specs.declared.track.Track.{Track}
 
 -- the track of a message in progress of which p was read, when granule g is reached

@@ -14,7 +14,7 @@ use Rattle.container.specs.Layout.{Format, formatOf, msgStart}
 use Rattle.record.specs.Records.{recordsOf}
 use Rattle.placement.specs.Cells.{cells, endings, ended, carryOk}
 use Rattle.placement.proofs.Keeps.{progress, cellOf, endedTo}
-use Rattle.reader.specs.Tracking.{trackOf, trackAfter, trackAt, endedBy, Ending}
+use Rattle.reader.specs.TrackingMirror.{trackOf, trackAfter, trackAt, endedBy, Ending}
 use Rattle.reader.specs.declared.track.Track.{Track}
 use Rattle.placement.proofs.ProgressLaws.{endings-of}
 use Rattle.reader.proofs.TrackLaws.{Follows, follows, ended-by, ending-sized, firm}

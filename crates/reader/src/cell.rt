@@ -5,7 +5,7 @@ ghost use Prim.Native.Nat.{_<_};
 ghost use lib.ListN.{length};
 ghost use lib.Dec.{ltb, eqb};
 ghost use Rattle.container.specs.Layout.{formatOf, wide, bit, granule};
-ghost use Rattle.reader.specs.Tracking.{cellFrom, finding, startMark};
+ghost use Rattle.reader.specs.TrackingMirror.{cellFrom, finding, startMark};
 use cause::Cause;
 use container::locate_granule;
 use container::measure_granule;

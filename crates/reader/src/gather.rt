@@ -4,7 +4,7 @@ ghost use Prim.Native.Nat.{_+_, _≤_};
 ghost use lib.ListN.{length};
 ghost use Rattle.lists.specs.Parts.{put, pad};
 ghost use Rattle.container.specs.Layout.{formatOf};
-ghost use Rattle.reader.specs.Tracking.{gathered, gatheredMessage, inProgress};
+ghost use Rattle.reader.specs.TrackingMirror.{gathered, gatheredMessage, inProgress};
 use crate::track::Track;
 use container::locate_granule;
 use container::measure_granule;

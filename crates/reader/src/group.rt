@@ -3,7 +3,7 @@ ghost use mathlib.Core.Path.{_≡_};
 ghost use mathlib.Core.Bool.{not};
 ghost use lib.Dec.{eqb};
 ghost use Rattle.cause.specs.Checks.{firstFault};
-ghost use Rattle.reader.specs.Tracking.{groupBy, markChecks, activationMarks};
+ghost use Rattle.reader.specs.TrackingMirror.{groupBy, markChecks, activationMarks};
 use cause::Cause;
 use cause::Verdict;
 

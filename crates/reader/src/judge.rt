@@ -7,7 +7,7 @@ ghost use Rattle.container.specs.Layout.{formatOf, msgStart};
 ghost use Rattle.container.specs.Grants.{headerGrant, noCounts};
 ghost use Rattle.cause.specs.Checks.{firstFault};
 ghost use Rattle.placement.specs.Checking.{headerChecks};
-ghost use Rattle.reader.specs.Tracking.{Looked, Begun, activationMarks, behindGranules};
+ghost use Rattle.reader.specs.TrackingMirror.{Looked, Begun, activationMarks, behindGranules};
 use crate::group::has_activation;
 use crate::group::judge_groups;
 use crate::scan::Scan;

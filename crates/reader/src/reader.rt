@@ -8,7 +8,7 @@ ghost use Rattle.placement.specs.Cells.{cells};
 ghost use Rattle.placement.specs.Checking.{granuleChecks};
 ghost use Rattle.reader.specs.Reading.{readerOk, carried, entryChecks, opened, nextReader, reading, readRoom, judging};
 ghost use Rattle.placement.specs.Cells.{carryOk};
-ghost use Rattle.reader.specs.Tracking.{trackOf, trackAt};
+ghost use Rattle.reader.specs.TrackingMirror.{trackOf, trackAt};
 use crate::gather::gather_carry;
 use crate::judge::judge_container;
 use crate::records::write_endings;

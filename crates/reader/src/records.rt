@@ -8,7 +8,7 @@ ghost use Rattle.container.specs.Layout.{formatOf, msgStart};
 ghost use Rattle.record.specs.Records.{recordOf, recordsOf};
 ghost use Rattle.placement.specs.Cells.{cells, endings};
 ghost use Rattle.placement.specs.Cells.{carryOk};
-ghost use Rattle.reader.specs.Tracking.{gatheredMessage, endedBy, Ending};
+ghost use Rattle.reader.specs.TrackingMirror.{gatheredMessage, endedBy, Ending};
 use crate::gather::gather_message;
 use crate::track::Track;
 use container::locate_granule;

@@ -2,7 +2,7 @@
 ghost use mathlib.Core.Path.{_≡_};
 ghost use lib.ListN.{length};
 ghost use Rattle.container.specs.Layout.{formatOf, msgStart};
-ghost use Rattle.reader.specs.Tracking.{Scanned, Begun};
+ghost use Rattle.reader.specs.TrackingMirror.{Scanned, Begun};
 use crate::cell::Finding;
 use crate::cell::judge_cell;
 use crate::track::Track;

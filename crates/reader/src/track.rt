@@ -5,7 +5,7 @@ ghost use lib.Dec.{eqb, leb};
 ghost use Rattle.lists.specs.Pick.{pick};
 ghost use lib.ListN.{length};
 ghost use Rattle.container.specs.Layout.{formatOf};
-ghost use Rattle.reader.specs.Tracking.{noTrack, trackOf, trackBy, trackAfter};
+ghost use Rattle.reader.specs.TrackingMirror.{noTrack, trackOf, trackBy, trackAfter};
 use container::locate_granule;
 use container::measure_granule;
 use container::starts_at;

@@ -17,7 +17,7 @@ use Rattle.container.specs.Layout.{Format, formatOf}
 use Rattle.container.specs.declared.grant.Grant.{Grant}
 use Rattle.writer.specs.Laying.{headerBytes, setAll, filled, owesAfter, usedOf}
 use Rattle.writer.specs.Filling.{tailOf, writerWith, fillFault, answerOf, filling, fillBytes}
-use Rattle.writer.specs.Holding.{Sane, owedOf, cursorAt, laidTo}
+use Rattle.writer.specs.HoldingMirror.{Sane, owedOf, cursorAt, laidTo}
 use Rattle.writer.specs.declared.cursor.Cursor.{Cursor}
 use Rattle.writer.specs.declared.writer.Writer.{Writer}
 use Rattle.writer.specs.declared.writer.Answer.the-variants as answer

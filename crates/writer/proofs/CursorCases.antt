@@ -19,7 +19,7 @@ use Rattle.message.specs.Heads.{typeOf, opOf}
 use Rattle.record.specs.Records.{firstOf, messageOf}
 use Rattle.record.specs.declared.list.First.{First}
 use Rattle.record.specs.declared.list.First.the-variants.{Empty, Bad, Whole}
-use Rattle.writer.specs.Holding.{mayBy, owedOf, Sane, cursorEmpty, cursorOn, cursorTaken, cursorFirst, bytesFirst, cursorNext, bytesNext}
+use Rattle.writer.specs.HoldingMirror.{mayBy, owedOf, Sane, cursorEmpty, cursorOn, cursorTaken, cursorFirst, bytesFirst, cursorNext, bytesNext}
 use Rattle.writer.specs.declared.cursor.Cursor.{Cursor}
 
 -- the value of a bit of MsgStart

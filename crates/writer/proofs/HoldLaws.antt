@@ -27,7 +27,7 @@ use Rattle.placement.specs.Checking.{populated, starting, sumOf}
 use Rattle.writer.specs.Plan as planned
 use Rattle.writer.specs.Plan.{Given, emptyCell, startCell, onCell, legal, beneath, nothing, startNext, give, groupAfter, cursorAfter, plan, cursorLast, cursorOf}
 use Rattle.writer.specs.Laying.{startBits, headerBytes, setAll, layCells, containerOf, filled, owesAfter, usedOf}
-use Rattle.writer.specs.Holding.{groupNext, legalBy, beneathBy, owedOf, Sane, cursorEmpty, cursorOn, cursorUsed, cursorStart, cursorFirst, bytesFirst, cursorNext, bytesNext, cursorAt, laidTo}
+use Rattle.writer.specs.HoldingMirror.{groupNext, legalBy, beneathBy, owedOf, Sane, cursorEmpty, cursorOn, cursorUsed, cursorStart, cursorFirst, bytesFirst, cursorNext, bytesNext, cursorAt, laidTo}
 use Rattle.writer.specs.declared.group.Group.{Group}
 use Rattle.writer.specs.declared.cursor.Cursor.{Cursor}
 use Rattle.writer.proofs.PlanLaws.{cursor-last-more, plan-more, plan-length, bits-more, lay-more}

@@ -7,7 +7,7 @@ use native.Mathlib.Numerals.{add-one}
 use lib.ListN.{length, replicate, length-replicate}
 use Rattle.container.specs.Layout.{Format}
 use Rattle.container.specs.declared.grant.Grant.{Grant}
-use Rattle.writer.specs.Holding.{cursorNext, bytesNext, cursorStarting, cursorAt, laidTo}
+use Rattle.writer.specs.HoldingMirror.{cursorNext, bytesNext, cursorStarting, cursorAt, laidTo}
 use Rattle.writer.specs.declared.cursor.Cursor.{Cursor}
 use Rattle.writer.proofs.CursorCases.{Written}
 

@@ -29,7 +29,7 @@ use Rattle.record.specs.declared.number.Number.the-variants.{Broken, Value}
 use Rattle.record.specs.declared.list.First.{First}
 use Rattle.record.specs.declared.list.First.the-variants.{Empty, Bad, Whole}
 use Rattle.record.proofs.RecordLaws.{first-within}
-use Rattle.writer.specs.Holding.{groupNext, legalBy, mayBy, Sane, cursorEmpty, cursorOn, cursorUsed, cursorStart, cursorTaken, cursorFirst, cursorNext, cursorStarting, cursorAt}
+use Rattle.writer.specs.HoldingMirror.{groupNext, legalBy, mayBy, Sane, cursorEmpty, cursorOn, cursorUsed, cursorStart, cursorTaken, cursorFirst, cursorNext, cursorStarting, cursorAt}
 use Rattle.writer.specs.declared.group.Group.{Group}
 use Rattle.writer.specs.declared.cursor.Cursor.{Cursor}
 

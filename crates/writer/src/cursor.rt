@@ -10,7 +10,7 @@ ghost use Rattle.lists.specs.Parts.{put, pad};
 ghost use Rattle.container.specs.Layout.{formatOf, start};
 ghost use Rattle.record.specs.Records.{firstOf};
 ghost use Rattle.record.specs.declared.list.First.the-variants.{Whole};
-ghost use Rattle.writer.specs.Holding.{Sane, noGroup, mayBy, cursorEmpty, cursorOn, cursorUsed, cursorTaken, cursorFirst, bytesFirst, cursorNext, bytesNext, cursorAt, laidTo, owedOf};
+ghost use Rattle.writer.specs.HoldingMirror.{Sane, noGroup, mayBy, cursorEmpty, cursorOn, cursorUsed, cursorTaken, cursorFirst, bytesFirst, cursorNext, bytesNext, cursorAt, laidTo, owedOf};
 use crate::fill::fill_granule;
 use crate::group::Group;
 use container::Grant;

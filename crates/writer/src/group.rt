@@ -5,7 +5,7 @@ ghost use Prim.Native.Nat.{_+_, _≤_};
 ghost use lib.Dec.{leb};
 ghost use Rattle.container.specs.Layout.{formatOf};
 ghost use Rattle.message.specs.Places.{miscsBy, responsesBy};
-ghost use Rattle.writer.specs.Holding.{noGroup, groupNext, legalBy, beneathBy};
+ghost use Rattle.writer.specs.HoldingMirror.{noGroup, groupNext, legalBy, beneathBy};
 use container::Grant;
 use container::has_counts;
 use message::count_miscs;

@@ -9,7 +9,7 @@ ghost use Rattle.lists.specs.Parts.{pad};
 ghost use Rattle.cause.specs.Checks.{firstFault};
 ghost use Rattle.container.specs.Grants.{planeAllowed};
 ghost use Rattle.writer.specs.Filling.{writerOk, opened, callChecks, fillFault, filling, fillBytes};
-ghost use Rattle.writer.specs.Holding.{owedOf};
+ghost use Rattle.writer.specs.HoldingMirror.{owedOf};
 use crate::cursor::Cursor;
 use crate::cursor::fill_granules;
 use crate::fill::write_header;

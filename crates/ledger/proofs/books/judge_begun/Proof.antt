@@ -6,7 +6,7 @@ use borrow.Author.Needs.{needs}
 use native.Mathlib.Omega.{arith}
 use lib.ListN.{getD}
 use Rattle.cause.specs.Checks.{firstFault}
-use Rattle.ledger.specs.Counting.{shortChecks}
+use Rattle.ledger.specs.CountingMirror.{shortChecks}
 use Rattle.pools.proofs.PoolLoops.{checks-stop, checks-go-on, checks-end}
 use Rattle.ledger.proofs.BookLaws.{short-checks}
 use Rattle.ledger.proofs.books.judge_begun.Statement.{statement}

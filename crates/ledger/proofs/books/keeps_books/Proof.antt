@@ -5,7 +5,7 @@ use mathlib.Core.List.{[]}
 use borrow.Author.Needs.{needs}
 use native.Mathlib.Omega.{arith}
 use lib.ListN.{getD}
-use Rattle.ledger.specs.Counting.{rowsOk}
+use Rattle.ledger.specs.CountingMirror.{rowsOk}
 use Rattle.pools.proofs.PoolLoops.{tests-stop, tests-go-on, tests-end}
 use Rattle.ledger.proofs.BookLaws.{book-tests, unpaid, paid-fits}
 use Rattle.ledger.proofs.books.keeps_books.Statement.{statement}

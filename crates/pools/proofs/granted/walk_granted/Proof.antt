@@ -4,7 +4,7 @@ use mathlib.Core.Path.{refl}
 use native.Mathlib.Omega.{arith}
 use borrow.Author.Needs.{needs}
 use Rattle.pools.specs.Pools.{grantChecks}
-use Rattle.pools.specs.Tallies.{crdtChecks}
+use Rattle.pools.specs.TalliesMirror.{crdtChecks}
 use Rattle.pools.proofs.TallyLaws.{zero-counts}
 use Rattle.pools.proofs.PassLaws.{tallied-before, walk-fits, walk-stops, walk-on, walk-ends}
 use Rattle.pools.proofs.GrantedLaws.{granted-walks, gain-most, Granting, granted-starts, all-granted}

@@ -1,7 +1,7 @@
 -- `reader::gather::gather_carry` meets its contract.
 use native.Mathlib.Omega.{arith}
 use Rattle.container.specs.Layout.{formatOf}
-use Rattle.reader.specs.Tracking.{gatheredMessage}
+use Rattle.reader.specs.TrackingMirror.{gatheredMessage}
 use Rattle.reader.proofs.GatherLaws.{carried-none, carried-fits, carried-some}
 use borrow.Author.Needs.{needs}
 use Rattle.reader.proofs.gather.gather_carry.Statement.{statement}

@@ -3,7 +3,7 @@ use Prim.Native.Nat.{ℕ, _-_}
 use mathlib.Core.List.{List}
 use native.Mathlib.Omega.{arith}
 use Rattle.container.specs.Layout.{formatOf}
-use Rattle.reader.specs.Tracking.{gathered}
+use Rattle.reader.specs.TrackingMirror.{gathered}
 use Rattle.reader.proofs.GatherLaws.{behind-fits, both-put}
 use borrow.Author.Needs.{needs}
 use Rattle.reader.proofs.gather.gather_message.Statement.{statement}

@@ -3,7 +3,7 @@ use Rattle.reader.proofs.MarkLaws.{activations-stop, activations-go-on,
 use Prim.Native.Nat.{_≤_, _-_}
 use mathlib.Core.Path.{_≡_, refl}
 use native.Mathlib.Omega.{arith}
-use Rattle.reader.specs.Tracking.{activationMarks}
+use Rattle.reader.specs.TrackingMirror.{activationMarks}
 use Rattle.reader.proofs.group.has_activation.Statement.{statement}
 use Rattle.reader.proofs.group.has_activation.Tie as tie
 

@@ -6,7 +6,7 @@ use Prim.Native.Nat.{_≤_, _-_}
 use mathlib.Core.Path.{_≡_, refl}
 use native.Mathlib.Omega.{arith}
 use Rattle.cause.specs.Checks.{firstFault}
-use Rattle.reader.specs.Tracking.{markChecks}
+use Rattle.reader.specs.TrackingMirror.{markChecks}
 use Rattle.reader.proofs.group.judge_groups.Statement.{statement}
 use Rattle.reader.proofs.group.judge_groups.Tie as tie
 

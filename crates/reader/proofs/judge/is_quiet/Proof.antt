@@ -1,7 +1,7 @@
 -- `reader::judge::is_quiet` meets its contract.
 use lib.Dec.{eqb}
 use Rattle.container.specs.Grants.{noCounts}
-use Rattle.reader.specs.Tracking.{activationMarks}
+use Rattle.reader.specs.TrackingMirror.{activationMarks}
 use mathlib.Core.Path.{sym, _∙_}
 use Rattle.reader.proofs.JudgeLaws.{with-counts, without-counts}
 use borrow.Author.Needs.{needs}

@@ -9,7 +9,7 @@ use lib.ListN.{length, take, drop}
 use lib.Dec.{ltb}
 use Rattle.container.specs.Layout.{formatOf, start, wide}
 use Rattle.container.proofs.Formats.{lawful-of}
-use Rattle.reader.specs.Tracking.{gatheredMessage, endedBy}
+use Rattle.reader.specs.TrackingMirror.{gatheredMessage, endedBy}
 use Rattle.reader.proofs.RecordsLaws.{none-written, one-written, one-fits}
 use Rattle.reader.proofs.EndingCases.{ended-long, ended-later, long-sized, off-idle, off-narrow, ended-none, ended-over, ended-short, short-small}
 use borrow.Author.Needs.{needs}

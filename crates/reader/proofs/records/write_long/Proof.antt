@@ -3,7 +3,7 @@ use Prim.Native.Nat.{_+_}
 use native.Mathlib.Omega.{arith}
 use lib.ListN.{length-set}
 use Rattle.container.specs.Layout.{formatOf}
-use Rattle.reader.specs.Tracking.{gatheredMessage}
+use Rattle.reader.specs.TrackingMirror.{gatheredMessage}
 use Rattle.reader.proofs.RecordsLaws.{Written, record-written}
 use borrow.Author.Needs.{needs}
 use Rattle.reader.proofs.records.write_long.Statement.{statement}

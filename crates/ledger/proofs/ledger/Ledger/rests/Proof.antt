@@ -5,7 +5,7 @@ use lib.ListN.{length}
 use borrow.Author.Tests.{ne-eqb}
 use borrow.Author.Needs.{needs}
 use Rattle.ledger.specs.Audit.{unchanged, auditing}
-use Rattle.ledger.specs.Counting.{resting}
+use Rattle.ledger.specs.CountingMirror.{resting}
 use Rattle.ledger.proofs.IdleTheorem.{idle-accepted}
 use Rattle.ledger.proofs.ledger.Ledger.rests.Statement.{statement}
 use Rattle.ledger.proofs.ledger.Ledger.rests.Tie as tie

@@ -6,7 +6,7 @@ use Rattle.cause.specs.declared.Cause.the-variants.{InvalidState}
 use Rattle.ledger.specs.declared.ledger.Ledger.{Ledger}
 use Rattle.log.specs.Log.{Setting, set-up, settingOf}
 use Rattle.log.specs.Stream.{most, stoppedAt, readFrom, started, startBy}
-use Rattle.log.specs.Concluding.{readOn}
+use Rattle.log.specs.ConcludingMirror.{readOn}
 use Rattle.log.specs.declared.log.LogVerdict.the-variants.{Refused}
 use Rattle.log.specs.declared.log.Outcome.{Outcome}
 use Rattle.log.specs.declared.log.Outcome.the-variants.{Over}

@@ -5,7 +5,7 @@ use native.Mathlib.Omega.{arith}
 use borrow.Author.Tests.{not-true, not-false}
 use borrow.Author.Needs.{needs}
 use Rattle.log.specs.Stream.{stoppedAt}
-use Rattle.log.specs.Concluding.{countsOk}
+use Rattle.log.specs.ConcludingMirror.{countsOk}
 use Rattle.log.specs.declared.log.Outcome.{Outcome}
 use Rattle.log.proofs.LogStates.{numbers-start, numbers-within, numbers-bad}
 use Rattle.log.proofs.LogCalls.{call-bad, call-start, call-on}

@@ -8,7 +8,7 @@ use Rattle.lists.proofs.PartLaws.{rest-is}
 use Rattle.ledger.specs.Run.{runOver}
 use Rattle.ledger.specs.declared.ledger.Answer.{Answer}
 use Rattle.log.specs.Stream.{most, stoppedAt}
-use Rattle.log.specs.Concluding.{concluding}
+use Rattle.log.specs.ConcludingMirror.{concluding}
 use Rattle.log.specs.declared.log.Outcome.{Outcome}
 use Rattle.log.proofs.LogRuns.{stateBy, saidBy, call-run, run-room}
 use Rattle.log.proofs.log.LogReader.read_entries.Statement.{statement}

@@ -5,7 +5,7 @@ use borrow.Author.Needs.{needs}
 use borrow.Author.Tests.{not-true}
 use Rattle.container.specs.Layout.{formatOf}
 use Rattle.message.specs.Heads.{miscBy, activation}
-use Rattle.writer.specs.Holding.{legalBy}
+use Rattle.writer.specs.HoldingMirror.{legalBy}
 use Rattle.writer.proofs.group.Group.admits_beneath.Statement.{statement}
 use Rattle.writer.proofs.group.Group.admits_beneath.Tie as tie
 

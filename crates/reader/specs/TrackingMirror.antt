@@ -1,4 +1,4 @@
--- What the code keeps of a container instead of its bytes: numbers of the message in progress, and a mark a granule.
+-- A mirror of the code's shape, not a rule: what is kept of a container instead of its bytes, numbers of the message in progress and a mark a granule.
 use Prim.Native.Nat.{ℕ, zero, suc, _+_, _-_, _*_, _/_, _%_, _≤_, _<_}
 use mathlib.Core.Path.{_≡_}
 use mathlib.Core.Bool.{Bool, true, _&&_, _||_}

@@ -1,4 +1,4 @@
--- What the code keeps of an entry: counts by pool, and the checks of pools by rows of counts.
+-- A mirror of the code's shape, not a rule: the checks of pools and the next ledger by rows of counts, proved equal to `Audit`.
 use Prim.Native.Nat.{ℕ, zero, suc, _+_, _-_}
 use mathlib.Core.Bool.{Bool, true, _&&_}
 use mathlib.Core.List.{List, [], _∷_, _++_}

@@ -1,4 +1,4 @@
--- What a call says behind a run over its entries, and what it asks of its state before the run.
+-- A mirror of the code's shape, not a rule: what a call says behind a run over its entries, and what it asks of its state before the run.
 use Prim.Native.Nat.{ℕ, _+_, _-_, _*_}
 use mathlib.Core.Bool.{Bool, true, _&&_}
 use mathlib.Core.List.{List}

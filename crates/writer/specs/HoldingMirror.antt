@@ -1,4 +1,4 @@
--- What the code keeps of a writer inside a container: where the bytes owed lie, and the counts of the present group.
+-- A mirror of the code's shape, not a rule: what the code keeps of a writer inside a container: where the bytes owed lie, and the counts of the present group.
 use Prim.Native.Nat.{ℕ, zero, suc, _+_, _-_, _%_, _^_, _≤_, _<_}
 use mathlib.Core.Path.{_≡_}
 use mathlib.Core.Bool.{Bool, true, false, _&&_, _||_, not}
