@@ -27,7 +27,6 @@ pub mod AnswerLaws
 pub mod RunLaws
 pub mod CallLaws
 pub mod RunRuleLaws
-pub mod NumberTakes
 pub mod SettingLaws
 pub mod LogSteps
 pub mod LogStates

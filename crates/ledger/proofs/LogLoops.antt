@@ -28,7 +28,7 @@ use Rattle.ledger.specs.declared.log.Outcome.the-variants.{More, Over}
 use Rattle.ledger.specs.declared.log.LogReader.{LogReader}
 use Rattle.ledger.specs.declared.log.Consumed.{Consumed}
 use Rattle.ledger.specs.declared.log.Entered.{Entered}
-use Rattle.ledger.proofs.NumberTakes.{Takes, takes-number}
+use Rattle.record.proofs.NumberTakes.{Takes, takes-number}
 use Rattle.ledger.proofs.IdleTheorem.{idle-accepted}
 use Rattle.ledger.proofs.LogSteps.{read-stop, read-over, read-on, Fits, next-fits, when-ready}
 use Rattle.ledger.proofs.LogStates.{Keeps, next-keeps}

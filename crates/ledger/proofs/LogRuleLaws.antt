@@ -37,7 +37,7 @@ use Rattle.ledger.specs.declared.log.LogReader.{LogReader}
 use Rattle.ledger.specs.declared.log.Consumed.{Consumed}
 use Rattle.ledger.proofs.ValidLedgerLaws.{ledger-exactly}
 use Rattle.ledger.proofs.CallLaws.{accepted-front, accepted-back, accepted-more, behind-append}
-use Rattle.ledger.proofs.NumberTakes.{Takes, takes-number}
+use Rattle.record.proofs.NumberTakes.{Takes, takes-number}
 use Rattle.ledger.proofs.NumberRuleLaws.{Configuration, good, bad, numbers-set-up, fault-wrong, configuration-of}
 use Rattle.ledger.proofs.LogSteps.{nextAt, read-stop, read-over, read-on, ready-last}
 use Rattle.ledger.proofs.LogStates.{running-valid, valid-running}

@@ -25,7 +25,7 @@ use Rattle.ledger.specs.declared.log.LogVerdict.{LogVerdict}
 use Rattle.ledger.specs.declared.log.LogVerdict.the-variants.{Accepted, Refused}
 use Rattle.ledger.specs.declared.log.Outcome.the-variants.{Over}
 use Rattle.ledger.specs.declared.log.LogReader.{LogReader}
-use Rattle.ledger.proofs.NumberTakes.{Takes, takes-number, number-append, number-stays}
+use Rattle.record.proofs.NumberTakes.{Takes, takes-number, number-append, number-stays}
 
 -- the entry at the front of the bytes from `at` on
 abbrev pub nextAt : LogReader → List ℕ → Next

@@ -17,7 +17,7 @@ use Rattle.record.specs.Number.{readNumber}
 use Rattle.record.specs.declared.number.Number.{Number}
 use Rattle.record.specs.declared.number.Number.the-variants.{Broken, Value}
 use Rattle.ledger.specs.Log.{Setting, wrong, set-up, settingFrom, settingOf, settingBy, numberThen, valueOk}
-use Rattle.ledger.proofs.NumberTakes.{Takes, takes-number, number-append}
+use Rattle.record.proofs.NumberTakes.{Takes, takes-number, number-append}
 
 pub or-false : (b : Bool) → (b || false) ≡ b
 or-false true = refl
