@@ -3,3 +3,4 @@ pub mod StateLaws
 pub mod CallTheorem
 pub mod CutTheorem
 pub mod TurnLaws
+pub mod RoomLaws
