@@ -193,3 +193,15 @@ module _ (l d₀ d : List ℕ) (at to : ℕ) (big : length l ≤ length d₀ / 2
         let n : length (take ((at + end) - (at + start)) (drop (at + start) l)) ≡ end - start = ap length message-is ∙ size in
         let r : length (take (length d - to) (drop to d)) ≡ length d - to = length-part to (length d - to) d (omega arith) in
         omega arith
+
+-- ---- how long the lines are
+
+-- at most two bytes for each byte of the records
+pub lines-most : (ms : List (List ℕ)) → AllMessages ms → length (messageLines ms) ≤ 2 * length (recordsOf ms)
+lines-most [] a = omega arith
+lines-most (m ∷ ms) a =
+    let h = is-message m (a .0) in
+    let sized = h .sized in
+    let one = ap length (number-small (length m) (omega (arith, size-most m))) in
+    let rest = lines-most ms (a .1) in
+    omega (arith, length-line m, length-append (messageLine m) (messageLines ms), length-append (recordOf m) (recordsOf ms), length-append (number (length m)) m)

@@ -1,199 +1,128 @@
 // Reads a format and containers from standard input through a window, and prints each finished message as a line of hex and then
 // the verdict.
 ghost use mathlib.Core.Path.{_≡_};
-ghost use Prim.Native.Nat.{_≤_, _<_};
+ghost use Prim.Native.Nat.{_-_, _≤_};
 ghost use lib.ListN.{length};
-ghost use Rattle.io.specs.Digits.{glyph};
-ghost use Rattle.reader.specs.Reading.{reading};
-use cause::Cause;
-use cause::Verdict;
-use cause::number_cause;
+ghost use Rattle.lists.specs.Parts.{part, put};
+ghost use Rattle.unpacker.specs.Stepping.{leastRoom, turn};
+ghost use Rattle.unpack.specs.Turns.{Filled, Taken};
+use input::Refill;
+use input::read_more;
 use libc::STDOUT_FILENO;
-use reader::Answer;
-use reader::Reader;
-use reader::Step;
-use record::First;
-use record::Number;
-use record::read_number;
-use record::read_record;
-use slices::move_front;
+use unpacker::LEAST_ROOM;
+use unpacker::Outcome;
+use unpacker::Unpacker;
 
-// As many containers as have an offset in 64 bits behind a number of at most five bytes.
-const MOST: u64 = 72057594037927935;
+// What a turn comes to: the next one can go on, the verdict is written, or the input could not be read.
+pub enum Progress {
+    On,
+    Over,
+    Failed,
+}
 
-// The bytes of the window that are not yet used: from `at` up to `have`.
+// The bytes at hand, from `at` up to `have` in the buffer, whether the input has ended, and what the turn comes to.
 pub struct Window {
     pub at: usize,
     pub have: usize,
+    pub ended: bool,
+    pub progress: Progress,
 }
 
-// The containers accepted, and why there are no more.
-pub struct Ended {
-    pub entries: u64,
-    pub verdict: Verdict,
+// The input behind a turn, and how many bytes of text stand in the room.
+pub struct Turn {
+    pub unpacker: Unpacker,
+    pub written: usize,
+    pub window: Window,
 }
 
-// The hex digit of a value below 16.
-fn form_digit(value: u8) -> u8
-    requires { ⌜ value < 16 ⌝ }
-    ensures { λ r. ⌜ r ≡ glyph value ⌝ }
+// The bytes from `at` up to `have`.
+fn frame(at: usize, have: usize, ended: bool, progress: Progress) -> Window
+    ensures { λ r. ⌜ r ≡ record { at = at; have = have; ended = ended; progress = progress } ⌝ }
 {
-    if value < 10 {
-        return 48 + value;
-    }
-    87 + value
-}
-
-// Prints a message as a line of hex.
-fn print_message(message: &[u8])
-    requires { ⌜ length (now message) ≤ 120 ⌝ }
-{
-    let mut line = [0u8; 241];
-    let mut i = 0;
-    while i < message.len() {
-        line[2 * i] = form_digit(message[i] / 16);
-        line[2 * i + 1] = form_digit(message[i] % 16);
-        i += 1;
-    }
-    line[2 * i] = 10;
-    let end = 2 * i + 1;
-    io::write_all(STDOUT_FILENO, &line[0..end]);
-}
-
-// Prints the messages of a list of records.
-fn print_messages(list: &[u8]) {
-    let mut at = 0;
-    while at < list.len() {
-        let first = read_record(&list[at..]);
-        match first {
-            First::Empty => return,
-            First::Bad => return,
-            First::Whole { start, end } => {
-                let from = at + start;
-                at += end;
-                print_message(&list[from..at]);
-            }
-        }
-    }
-}
-
-// Reads one container and prints the messages that end in it.
-fn read_container(reader: Reader, container: &[u8]) -> Step
-    ensures { λ r. ⌜ r ≡ reading reader (now (container .entry)) 352 ⌝ }
-{
-    let mut room = [0u8; 352];
-    let step = reader.read(container, &mut room);
-    let answer = step.answer;
-    if let Answer::Done { length, grant: _ } = answer {
-        print_messages(&room[0..length]);
-    }
-    step
-}
-
-// A window with at least 256 unused bytes, or with all that the input still has.
-fn fill_window(buf: &mut [u8], window: Window) -> Window
-    requires { ⌜ (window .at ≤ window .have) × (window .have ≤ length (now buf)) ⌝ }
-    ensures { λ r. ⌜ (r .at ≤ r .have) × (r .have ≤ length (now (buf .exit))) ⌝ }
-{
-    let keep = window.have - window.at;
-    if 256 <= keep {
-        return window;
-    }
-    move_front(buf, window.at, keep);
-    let n = io::read_full(0, &mut buf[keep..]);
     Window {
-        at: 0,
-        have: keep + n,
-    }
-}
-
-// Reads the containers behind a format number of `used` bytes, of which the window holds the first.
-fn read_containers(buf: &mut [u8], fresh: Reader, used: usize, have: usize) -> Ended
-    requires { ⌜ (used ≤ 5) × (used ≤ have) × (have ≤ length (now buf)) ⌝ }
-{
-    let mut reader = fresh;
-    let mut window = Window {
-        at: used,
+        at: at,
         have: have,
-    };
-    let mut entries = 0;
-    while entries < MOST {
-        window = fill_window(buf, window);
-        let at = window.at;
-        let left = window.have - at;
-        if left == 0 {
-            break;
-        }
-        if left < 256 {
-            return Ended {
-                entries: entries,
-                verdict: Verdict::Faulty(Cause::BrokenRecord, used as u64 + 256 * entries),
-            };
-        }
-        let end = at + 256;
-        let step = read_container(reader, &buf[at..end]);
-        let answer = step.answer;
-        if let Answer::Refused { cause, place } = answer {
-            return Ended {
-                entries: entries,
-                verdict: Verdict::Faulty(cause, place),
-            };
-        }
-        reader = step.reader;
-        window.at = end;
-        entries += 1;
-    }
-    Ended {
-        entries: entries,
-        verdict: Verdict::Sound,
+        ended: ended,
+        progress: progress,
     }
 }
 
-// Reads the format, and then the containers.
-fn read_input(buf: &mut [u8]) -> Ended {
-    let have = io::read_full(0, buf);
-    let number = read_number(&buf[0..have]);
-    match number {
-        Number::Broken => Ended {
-            entries: 0,
-            verdict: Verdict::Faulty(Cause::BrokenRecord, 0),
+// Keeps the bytes at hand, and puts behind them what one read gives. The buffer has room, for no call asks for more than 256 bytes.
+fn refill(buf: &mut [u8], at: usize, have: usize) -> Window
+    requires { ⌜ (at ≤ have) × (have ≤ length (now buf)) ⌝ }
+    ensures { λ r. ⌜ Filled (part at (have - at) (now (buf .entry))) (now (buf .exit)) r ⌝ }
+{
+    let left = have - at;
+    let refill = read_more(buf, at, have);
+    match refill {
+        Refill::Got(n) => frame(0, n, false, Progress::On),
+        Refill::End => frame(0, left, true, Progress::On),
+        Refill::Failed => frame(0, left, false, Progress::Failed),
+        Refill::Full => frame(0, left, false, Progress::Failed),
+    }
+}
+
+// One turn: a call on the bytes at hand, and a refill where it asks for more.
+fn take_turn(unpacker: Unpacker, window: Window, buf: &mut [u8], room: &mut [u8]) -> Turn
+    requires { ⌜ (window .at ≤ window .have) × (window .have ≤ length (now buf)) × (leastRoom ≤ length (now room)) ⌝ }
+    ensures turn { λ r. ⌜ Taken unpacker (part (window .at) (window .have - window .at) (now (buf .entry))) (window .ended) (now (buf .exit)) r ⌝ }
+    ensures room { λ _. ⌜ now (room .exit) ≡ put 0 (turn unpacker (part (window .at) (window .have - window .at) (now (buf .entry))) (window .ended) .text) (now (room .entry)) ⌝ }
+{
+    let at = window.at;
+    let have = window.have;
+    let ended = window.ended;
+    let step = unpacker.consume(&buf[at..have], ended, room);
+    let next = step.unpacker;
+    let outcome = step.outcome;
+    let from = at + step.used;
+    match outcome {
+        Outcome::Over(_) => Turn {
+            unpacker: next,
+            written: step.written,
+            window: frame(from, have, ended, Progress::Over),
         },
-        Number::Value { value, used } => {
-            let opened = Reader::fresh(value);
-            let verdict = opened.verdict;
-            if let Verdict::Faulty(_, _) = verdict {
-                return Ended {
-                    entries: 0,
-                    verdict: verdict,
-                };
-            }
-            let reader = opened.reader;
-            read_containers(buf, reader, used, have)
-        }
+        Outcome::Next => Turn {
+            unpacker: next,
+            written: step.written,
+            window: frame(from, have, ended, Progress::On),
+        },
+        Outcome::More => Turn {
+            unpacker: next,
+            written: step.written,
+            window: refill(buf, from, have),
+        },
     }
 }
 
-// Prints a number behind a space.
-fn print_number(value: u64) {
-    io::write_all(STDOUT_FILENO, b" ");
-    io::print_decimal(STDOUT_FILENO, value);
+// Takes turns until the verdict is written.
+fn unpack_input(buf: &mut [u8], room: &mut [u8])
+    requires { ⌜ (length (now buf) ≡ 65536) × (leastRoom ≤ length (now room)) ⌝ }
+{
+    let mut unpacker = Unpacker::fresh();
+    let mut window = frame(0, 0, false, Progress::On);
+    loop {
+        let turn = take_turn(unpacker, window, buf, room);
+        let written = turn.written;
+        if !io::write_all(STDOUT_FILENO, &room[0..written]) {
+            os::fail(b"unpack: standard output");
+            return;
+        }
+        unpacker = turn.unpacker;
+        window = turn.window;
+        let progress = window.progress;
+        match progress {
+            Progress::On => {}
+            Progress::Over => return,
+            Progress::Failed => {
+                os::fail(b"unpack: standard input");
+                return;
+            }
+        }
+    }
 }
 
 fn main() {
-    let mut space = io::large_buffer();
-    let ended = read_input(&mut space);
-    let verdict = ended.verdict;
-    match verdict {
-        Verdict::Sound => {
-            io::write_all(STDOUT_FILENO, b"accepted");
-            print_number(ended.entries);
-        }
-        Verdict::Faulty(cause, place) => {
-            io::write_all(STDOUT_FILENO, b"refused");
-            print_number(ended.entries);
-            print_number(number_cause(cause) as u64);
-            print_number(place);
-        }
-    }
-    io::write_all(STDOUT_FILENO, b"\n");
+    let mut buf = io::large_buffer();
+    let mut room = [0u8; LEAST_ROOM];
+    unpack_input(&mut buf, &mut room);
 }

@@ -1,0 +1,39 @@
+-- One turn of the program: a call on the bytes at hand, and a refill of the buffer where it asks for more.
+use Prim.Native.Nat.{ℕ, _-_, _≤_, _<_}
+use mathlib.Core.Path.{_≡_}
+use mathlib.Core.Bool.{Bool, true, false}
+use mathlib.Core.List.{List, _++_}
+use lib.ListN.{length}
+use Rattle.lists.specs.Parts.{part}
+use Rattle.unpacker.specs.Stepping.{turn}
+use Rattle.unpacker.specs.Cutting.{leftBy}
+use Rattle.unpacker.specs.declared.unpack.Unpacker.{Unpacker}
+use Rattle.unpacker.specs.declared.unpack.Outcome.{Outcome}
+use Rattle.unpacker.specs.declared.unpack.Outcome.the-variants as outcome
+use Rattle.unpack.specs.declared.Progress.the-variants.{On, Over, Failed}
+use Rattle.unpack.specs.declared.Window.{Window}
+use Rattle.unpack.specs.declared.Turn.{Turn}
+
+-- the bytes b are at hand in a window over a buffer
+pub record AtHand (w : Window) (buf b : List ℕ) : Type 0 where
+  pub inside : w .at ≤ w .have
+  pub within : w .have ≤ length buf
+  pub bytes : part (w .at) (w .have - w .at) buf ≡ b
+
+-- a refill behind the bytes b: more of them, the end of the input, or a read that has failed
+pub data Filled (b buf : List ℕ) (w : Window) : Type 0 where
+  got : (p : List ℕ) → 0 < length p → AtHand w buf (b ++ p) → w .ended ≡ false → w .progress ≡ On → Filled b buf w
+  end : AtHand w buf b → w .ended ≡ true → w .progress ≡ On → Filled b buf w
+  failed : w .progress ≡ Failed → Filled b buf w
+
+-- the window behind a call that has left the bytes b, by its outcome
+abbrev pub Follows : List ℕ → Bool → List ℕ → Window → Outcome → Type 0
+Follows b ended buf w (outcome.Over v) = w .progress ≡ Over
+Follows b ended buf w outcome.Next = AtHand w buf b × (w .ended ≡ ended) × (w .progress ≡ On)
+Follows b ended buf w outcome.More = Filled b buf w
+
+-- a turn from a state with the bytes b at hand
+pub record Taken (s : Unpacker) (b : List ℕ) (ended : Bool) (buf : List ℕ) (r : Turn) : Type 0 where
+  pub next : r .unpacker ≡ turn s b ended .next
+  pub written : r .written ≡ length (turn s b ended .text)
+  pub window : Follows (leftBy (turn s b ended) b) ended buf (r .window) (turn s b ended .outcome)

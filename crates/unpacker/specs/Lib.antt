@@ -1,0 +1,3 @@
+pub mod Unpacking
+pub mod Stepping
+pub mod Cutting
