@@ -8,17 +8,17 @@
 #include "plain.h"
 #include "traffic.h"
 
-enum { LINE = 65536, BYTES = 65536, MOST = 64, RUN = 24, JUDGED = 200000, LAST_CAUSE = 19 };
+enum { LINE = 65536, BYTES = 65536, RUN = 24, JUDGED = 200000, LAST_CAUSE = 19 };
 
 /* The report of numbers that are no configuration, or of no direction or pool. */
 static const uint64_t REFUSED = (uint64_t)19 << 48;
 
-/* What a run is made of: numbers, and entries one behind the other, of which the last may be cut short. */
+/* What a run is made of: numbers, and entries one behind the other, of which the last may be cut short. Random entries begin at `starts`. */
 struct input {
     uint32_t numbers[NUMBERS + 1];
     size_t numbers_len;
-    uint8_t entries[(MOST + 1) * ENTRY];
-    size_t len;
+    uint8_t entries[BYTES];
+    size_t len, starts[RUN + 1];
 };
 
 static unsigned differences;
@@ -34,12 +34,13 @@ static void same(const char *name, const char *what, uint64_t ours, uint64_t wan
         differ(name, what, ours, wanted);
 }
 
-/* Compares cause, place and count of the library with the wanted ones. */
-static void compare_answer(const char *name, const struct input *in, unsigned cause, uint64_t place, size_t count) {
+/* Compares cause, place, count and bytes used of the library with the wanted ones. */
+static void compare_answer(const char *name, const struct input *in, unsigned cause, uint64_t place, size_t count, size_t used) {
     same(name, "cause", c2c_audit(in->numbers, in->numbers_len, in->entries, in->len), cause);
     same(name, "cause by a call each", c2c_audit_each(in->numbers, in->numbers_len, in->entries, in->len), cause);
     same(name, "place", c2c_audit_place(in->numbers, in->numbers_len, in->entries, in->len), place);
     same(name, "count", c2c_audit_count(in->numbers, in->numbers_len, in->entries, in->len), count);
+    same(name, "bytes used", c2c_audit_used(in->numbers, in->numbers_len, in->entries, in->len), used);
 }
 
 /* Compares the report of a direction and pool with the wanted one. */
@@ -65,7 +66,8 @@ static struct plain_run compare_plain(const char *name, const struct input *in) 
     same(name, "plain C's cause by a call each", each.cause, run.cause);
     same(name, "plain C's place by a call each", each.place, run.place);
     same(name, "plain C's count by a call each", each.count, run.count);
-    compare_answer(name, in, run.cause, run.place, run.count);
+    same(name, "plain C's bytes used by a call each", each.used, run.used);
+    compare_answer(name, in, run.cause, run.place, run.count, run.used);
     compare_reports(name, in, &run.ledger);
     return run;
 }
@@ -115,28 +117,6 @@ static size_t read_numbers(const uint8_t *log, size_t len, struct input *in) {
     return at;
 }
 
-/* Takes the entries of a log; one that is cut short or has a broken number is the last and stands as a cut one. */
-static void read_entries(const uint8_t *log, size_t len, struct input *in) {
-    in->len = 0;
-    while (len > 0) {
-        uint32_t number = 0;
-        size_t used = read_number(log, len, &number), rest = used > 0 ? len - used : 0;
-        size_t taken = rest < CONTAINER ? rest : CONTAINER;
-        uint8_t *entry = in->entries + in->len;
-        if (in->len + ENTRY > sizeof in->entries) {
-            fprintf(stderr, "a log has over %d entries\n", MOST);
-            exit(2);
-        }
-        entry[0] = (uint8_t)(number % 2);
-        memcpy(entry + 1, log + used, taken);
-        in->len += 1 + taken;
-        if (taken < CONTAINER)
-            return;
-        log += used + taken;
-        len -= used + taken;
-    }
-}
-
 /* Runs one log against its line. */
 static void run_log(const char *name, const char *line, const char *bytes) {
     static uint8_t log[BYTES];
@@ -148,19 +128,22 @@ static void run_log(const char *name, const char *line, const char *bytes) {
         fprintf(stderr, "bad line of log %s\n", name);
         exit(2);
     }
-    read_entries(log + used, len - used, &in);
-    /* a broken number of the configuration is 17 in the log, but the numbers before it are too few and so 19 */
+    in.len = len - used;
+    memcpy(in.entries, log + used, in.len);
+    struct plain_run run = compare_plain(name, &in);
     if (in.numbers_len < NUMBERS) {
+        /* a broken number of the configuration is 17 in the log, but the numbers before it are too few and so 19 */
         if (count != 0 || (cause != 17 && cause != 19))
             differ(name, "the line's cause of a broken configuration", cause, 17);
         cause = 19;
         place = 0;
-    }
-    /* the place of a cut entry is its offset in the log, but here its offset in the entries */
-    if (cause == 17)
-        place = (unsigned long long)ENTRY * count;
-    compare_answer(name, &in, cause, place, count);
-    struct plain_run run = compare_plain(name, &in);
+    } else if (cause == 17) {
+        /* an entry that is not whole is 17 at its offset in the log, but here it is left over */
+        same(name, "bytes before an entry that is not whole", used + run.used, place);
+        cause = 0;
+        place = 0;
+    } else if (cause == 0)
+        same(name, "bytes of an accepted log", used + run.used, len);
     same(name, "plain C's cause", run.cause, cause);
     same(name, "plain C's place", run.place, place);
     same(name, "plain C's count", run.count, count);
@@ -202,19 +185,31 @@ static void draw_numbers(uint32_t numbers[NUMBERS]) {
     }
 }
 
-/* Makes a run of entries that are accepted. */
+/* Puts a number in seven-bit groups, low group first; answers its bytes. */
+static size_t put_number(uint32_t number, uint8_t *out) {
+    size_t n = 0;
+    for (; number >= 128; number /= 128)
+        out[n++] = (uint8_t)(128 + number % 128);
+    out[n] = (uint8_t)number;
+    return n + 1;
+}
+
+/* Makes a run of entries that are accepted, most of them at tick 0. */
 static void draw_entries(struct input *in) {
+    static const uint32_t ticks[8] = {0, 0, 0, 0, 1, 64, 8192, 2147483647};
     static const struct profile profiles[3] = {{20, 25, 30, 50}, {0, 5, 25, 90}, {0, 0, 60, 70}};
     const struct profile *profile = &profiles[draw(3)];
     struct traffic t;
     traffic_open(&t, in->numbers);
     in->len = 0;
     for (unsigned i = 0; i < RUN; i++) {
-        uint8_t *entry = in->entries + in->len;
-        entry[0] = (uint8_t)draw(2);
-        traffic_next(&t, entry[0], profile, entry + 1);
-        in->len += ENTRY;
+        unsigned direction = draw(2);
+        in->starts[i] = in->len;
+        in->len += put_number(2 * ticks[draw(8)] + direction, in->entries + in->len);
+        traffic_next(&t, direction, profile, in->entries + in->len);
+        in->len += CONTAINER;
     }
+    in->starts[RUN] = in->len;
 }
 
 /* Changes one count of the header's grant by one. */
@@ -223,15 +218,17 @@ static void nudge_count(uint32_t format, uint8_t *container) {
     *count = (uint8_t)(draw(2) ? *count + 1 : *count - 1);
 }
 
-/* Damages an entry: its direction, a count, or other bytes of its container. */
-static void damage_entry(uint32_t format, uint8_t *entry) {
+/* Damages entry i: its direction or its number, a count, or other bytes of its container. */
+static void damage_entry(struct input *in, unsigned i) {
     unsigned kind = draw(8);
+    uint32_t format = in->numbers[0];
+    uint8_t *entry = in->entries + in->starts[i], *container = in->entries + in->starts[i + 1] - CONTAINER;
     if (kind == 0)
         entry[0] = (uint8_t)(draw(8) ? entry[0] ^ 1u : draw(256));
     else if (kind < 4)
-        nudge_count(format, entry + 1);
+        nudge_count(format, container);
     else
-        damage(format, entry + 1);
+        damage(format, container);
 }
 
 /* Damages one number of a configuration, often a push. */
@@ -249,27 +246,26 @@ static void draw_run(struct input *in) {
     in->numbers_len = NUMBERS;
     draw_entries(in);
     for (unsigned i = draw(4); i > 0; i--)
-        damage_entry(in->numbers[0], in->entries + ENTRY * draw(RUN));
+        damage_entry(in, draw(RUN));
     if (draw(20) == 0)
         damage_numbers(in->numbers);
     if (draw(50) == 0)
         in->numbers_len = draw(2) ? NUMBERS - 1 : NUMBERS + 1;
     if (draw(4) == 0)
-        in->len = ENTRY * draw(RUN) + 1 + draw(CONTAINER);
+        in->len = in->starts[draw(RUN)] + 1 + draw(CONTAINER);
     if (draw(20) == 0)
         in->len = 0;
 }
 
-/* The entries that a run judges: those accepted, and one that is whole and refused. */
+/* The entries that a run judges: those accepted, and one that is refused. */
 static size_t count_judged(const struct input *in, const struct plain_run *run) {
-    int configured = plain_configured(in->numbers, in->numbers_len);
-    return run->count + (configured && run->count < in->len / ENTRY);
+    return run->count + (run->cause != 0 && plain_configured(in->numbers, in->numbers_len));
 }
 
 /* Compares random runs until enough entries are judged; answers how many runs. */
 static unsigned run_random(size_t *judged) {
     static struct input in;
-    unsigned runs = 0, seen[LAST_CAUSE + 1] = {0};
+    unsigned runs = 0, left = 0, seen[LAST_CAUSE + 1] = {0};
     for (; *judged < JUDGED; runs++) {
         char name[32];
         draw_run(&in);
@@ -277,12 +273,13 @@ static unsigned run_random(size_t *judged) {
         struct plain_run run = compare_plain(name, &in);
         *judged += count_judged(&in, &run);
         seen[run.cause]++;
+        left += run.cause == 0 && run.used < in.len;
     }
     printf("audit: random runs by cause:");
     for (unsigned i = 0; i <= LAST_CAUSE; i++)
         if (seen[i] > 0)
             printf(" %u (%u)", i, seen[i]);
-    printf("\n");
+    printf("; %u with an entry left over that is not whole\n", left);
     return runs;
 }
 

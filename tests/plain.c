@@ -395,37 +395,6 @@ static struct plain_run open_run(const uint32_t *numbers, size_t numbers_len) {
     return run;
 }
 
-/* Refuses the bytes of an entry that is cut short behind the accepted ones. */
-static void refuse_cut(struct plain_run *run, size_t len) {
-    if (run->cause == 0 && len > 0) {
-        run->cause = 17;
-        run->place = ENTRY * run->count;
-    }
-}
-
-struct plain_run plain_run(const uint32_t *numbers, size_t numbers_len, const uint8_t *entries, size_t len) {
-    struct plain_run run = open_run(numbers, numbers_len);
-    for (; run.cause == 0 && len >= ENTRY; entries += ENTRY, len -= ENTRY) {
-        if (entries[0] > 1)
-            run.cause = 19;
-        else
-            run.cause = plain_step(&run.ledger, entries[0], entries + 1, CONTAINER, &run.place);
-        run.count += run.cause == 0;
-    }
-    refuse_cut(&run, len);
-    return run;
-}
-
-struct plain_run plain_run_each(const uint32_t *numbers, size_t numbers_len, const uint8_t *entries, size_t len) {
-    struct plain_run run = open_run(numbers, numbers_len);
-    for (; run.cause == 0 && len >= ENTRY; entries += ENTRY, len -= ENTRY) {
-        run.cause = plain_audit(&run.ledger, entries[0], entries + 1, CONTAINER, &run.place);
-        run.count += run.cause == 0;
-    }
-    refuse_cut(&run, len);
-    return run;
-}
-
 /* The number at the front of a list and its bytes, 0 bytes if it is broken. */
 static size_t read_number(const uint8_t *list, size_t len, uint64_t *value) {
     *value = 0;
@@ -435,6 +404,41 @@ static size_t read_number(const uint8_t *list, size_t len, uint64_t *value) {
             return (i > 0 && list[i] == 0) || *value > UINT32_MAX ? 0 : i + 1;
     }
     return 0;
+}
+
+/* The bytes of the number of the entry at the front, and the entry's direction; 0 if it is not whole. */
+static size_t frame_entry(const uint8_t *bytes, size_t len, unsigned *direction) {
+    uint64_t number;
+    size_t used = read_number(bytes, len, &number);
+    *direction = (unsigned)(number % 2);
+    return len - used < CONTAINER ? 0 : used;
+}
+
+/* The entries at the front, up to the first that is refused or not whole. */
+static inline struct plain_run run_entries(const uint32_t *numbers, size_t numbers_len, const uint8_t *entries, size_t len,
+                                           plain_auditing *audit) {
+    struct plain_run run = open_run(numbers, numbers_len);
+    while (run.cause == 0) {
+        unsigned direction;
+        const uint8_t *entry = entries + run.used;
+        size_t number = frame_entry(entry, len - run.used, &direction);
+        if (number == 0)
+            break;
+        run.cause = audit(&run.ledger, direction, entry + number, CONTAINER, &run.place);
+        if (run.cause == 0) {
+            run.count++;
+            run.used += number + CONTAINER;
+        }
+    }
+    return run;
+}
+
+struct plain_run plain_run(const uint32_t *numbers, size_t numbers_len, const uint8_t *entries, size_t len) {
+    return run_entries(numbers, numbers_len, entries, len, plain_step);
+}
+
+struct plain_run plain_run_each(const uint32_t *numbers, size_t numbers_len, const uint8_t *entries, size_t len) {
+    return run_entries(numbers, numbers_len, entries, len, plain_audit);
 }
 
 /* The bytes of the record at the front of a list, 0 if it is broken or, by `responses`, in the wrong list. */

@@ -26,11 +26,11 @@ struct plain_ledger {
     uint32_t held[2][POOLS], open[2][POOLS];
 };
 
-/* What a list of entries gives: 0 or the cause of the first refusal, its place, the entries accepted and the ledger behind them. */
+/* What entries give: 0 or the cause of the first refusal, its place, the entries accepted, their bytes and the ledger behind them. */
 struct plain_run {
     unsigned cause;
     uint64_t place;
-    size_t count;
+    size_t count, used;
     struct plain_ledger ledger;
 };
 
@@ -54,8 +54,8 @@ plain_auditing plain_audit;
 /* The same from a valid ledger and for direction 0 or 1, neither of which it judges. */
 plain_auditing plain_step;
 
-/* The entries audited by a step each, the ledger being judged once; numbers that are no configuration are 19, an entry that is cut short
-   is 17 at its offset. */
+/* The entries at the front, as a log frames them, audited by a step each, the ledger being judged once; numbers that are no configuration
+   are 19, and an entry that is not whole is left over. */
 struct plain_run plain_run(const uint32_t *numbers, size_t numbers_len, const uint8_t *entries, size_t len);
 
 /* The same by an audit each. */

@@ -6,7 +6,22 @@ use std::fs;
 use std::path::{Path, PathBuf};
 
 /// The crates that a container is handed to, and those that they call.
-const CRATES: [&str; 9] = ["cause", "container", "message", "record", "reader", "writer", "ledger", "feeder", "host"];
+const CRATES: [&str; 14] = [
+    "slices",
+    "cause",
+    "container",
+    "message",
+    "record",
+    "frame",
+    "feeder",
+    "placement",
+    "reader",
+    "writer",
+    "pools",
+    "ledger",
+    "log",
+    "host",
+];
 
 /// Whether a line is for the prover or the linker alone.
 fn is_left_out(code: &str) -> bool {

@@ -4,7 +4,7 @@ use mathlib.Core.Path.{_≡_, refl, sym, ap, _∙_}
 use mathlib.Core.Bool.{Bool, true, false}
 use mathlib.Core.List.{List}
 use native.Mathlib.Omega.{arith}
-use lib.ListN.{length, getD}
+use lib.ListN.{getD}
 use Rattle.lists.specs.Pick.{pick}
 use Rattle.cause.specs.Causes.{causeNumber}
 use Rattle.cause.specs.declared.Cause.{Cause}
@@ -13,7 +13,7 @@ use Rattle.cause.specs.declared.Verdict.{Verdict}
 use Rattle.cause.specs.declared.Verdict.the-variants.{Sound, Faulty}
 use Rattle.cause.proofs.CauseLaws.{number-most}
 use Rattle.ledger.specs.Audit.{ledgerOk, configured, freshLedger, opening, reported}
-use Rattle.ledger.specs.Run.{running, runOver}
+use Rattle.ledger.specs.Run.{halted, running, runOver}
 use Rattle.pools.specs.declared.receiver.Receiver.{Receiver}
 use Rattle.ledger.specs.declared.ledger.Ledger.{Ledger}
 use Rattle.ledger.specs.declared.ledger.Opened.{Opened}
@@ -22,10 +22,10 @@ use Rattle.ledger.specs.declared.ledger.Reported.{Reported}
 use Rattle.ledger.specs.declared.ledger.Reported.the-variants as report
 use Rattle.ledger.specs.declared.entries.Run.{Run}
 use Rattle.ledger.proofs.FreshLaws.{fresh-valid}
-use Rattle.audit_probe.specs.Audit.{receiverFrom, numbersOk, openingFrom, runBy, runFrom, reportBy, reportFrom}
+use Rattle.audit_probe.specs.Audit.{most, receiverFrom, numbersOk, openingFrom, runBy, runFrom, reportBy, reportFrom}
 
 -- a run from a valid ledger goes over its entries
-pub run-valid : (s : Ledger) (l : List ℕ) → ledgerOk s ≡ true → running (length l) s 0 l ≡ runOver s l
+pub run-valid : (s : Ledger) (l : List ℕ) → ledgerOk s ≡ true → running most s 0 0 l ≡ runOver s most l
 run-valid s l h = rw h
 
 -- ---- the ledger of numbers
@@ -69,10 +69,10 @@ module _ (l e : List ℕ) (o : Opened) (q : o ≡ openingFrom l) where
   unfolding runFrom
   run-by v w = ap (λ (x : Verdict). runBy x (o .ledger) e) (sym w) ∙ ap (λ (x : Opened). runBy (x .verdict) (x .ledger) e) q
 
-  pub run-refused : (k : Cause) (p : ℕ) → o .verdict ≡ Faulty k p → _≡_ {A = Run} (record { ledger = o .ledger; accepted = 0; answer = Refused k p }) (runFrom l e)
+  pub run-refused : (k : Cause) (p : ℕ) → o .verdict ≡ Faulty k p → halted (o .ledger) 0 0 (Refused k p) ≡ runFrom l e
   run-refused k p w = run-by (Faulty k p) w
 
-  pub run-sound : o .verdict ≡ Sound → runOver (o .ledger) e ≡ runFrom l e
+  pub run-sound : o .verdict ≡ Sound → runOver (o .ledger) most e ≡ runFrom l e
   run-sound w = run-by Sound w
 
   report-by : (d p : ℕ) (v : Verdict) → o .verdict ≡ v → reportBy v (runFrom l e .ledger) d p ≡ reportFrom l e d p

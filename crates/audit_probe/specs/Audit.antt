@@ -11,7 +11,7 @@ use Rattle.cause.specs.declared.Verdict.{Verdict}
 use Rattle.cause.specs.declared.Verdict.the-variants.{Sound, Faulty}
 use Rattle.pools.specs.Rows.{row}
 use Rattle.ledger.specs.Audit.{freshLedger, opening, reported}
-use Rattle.ledger.specs.Run.{runOver}
+use Rattle.ledger.specs.Run.{halted, runOver}
 use Rattle.pools.specs.declared.receiver.Receiver.{Receiver}
 use Rattle.ledger.specs.declared.ledger.Ledger.{Ledger}
 use Rattle.ledger.specs.declared.ledger.Opened.{Opened}
@@ -44,10 +44,14 @@ abbrev pub placeOf : Answer → ℕ
 placeOf Accepted = 0
 placeOf (Refused c p) = p
 
--- what the entries e come to from a fresh ledger
+-- the most entries of a run
+abbrev pub most : ℕ
+most = 4_294_967_295
+
+-- what the entries at the front of e come to from a fresh ledger
 abbrev pub runBy : Verdict → Ledger → List ℕ → Run
-runBy Sound s e = runOver s e
-runBy (Faulty c p) s e = record { ledger = s; accepted = 0; answer = Refused c p }
+runBy Sound s e = runOver s most e
+runBy (Faulty c p) s e = halted s 0 0 (Refused c p)
 
 unfoldable pub runFrom : List ℕ → List ℕ → Run
 runFrom l e = runBy (openingFrom l .verdict) (openingFrom l .ledger) e

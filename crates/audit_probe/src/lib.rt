@@ -1,21 +1,26 @@
-// The audit of entries from a fresh ledger, for tests and benchmarks written in C.
+// The audit of entries, as a log frames them, from a fresh ledger, for tests and benchmarks written in C.
 ghost use mathlib.Core.Path.{_≡_};
 ghost use mathlib.Core.Bool.{true};
 ghost use Prim.Native.Nat.{_≤_};
 ghost use lib.ListN.{getD};
-ghost use Rattle.ledger.specs.Audit.{ledgerOk, auditing};
-ghost use Rattle.ledger.specs.Run.{runOver};
-ghost use Rattle.audit_probe.specs.Audit.{receiverFrom, numbersOk, openingFrom, causeOf, placeOf, runFrom, reportFrom, reportNumber};
+ghost use Rattle.ledger.specs.Audit.{ledgerOk};
+ghost use Rattle.ledger.specs.Run.{halted, runOver};
+ghost use Rattle.audit_probe.specs.Audit.{most, receiverFrom, numbersOk, openingFrom, causeOf, placeOf, runFrom, reportFrom, reportNumber};
 use cause::Cause;
 use cause::Verdict;
 use cause::number_cause;
+use frame::CONTAINER;
+use frame::Framed;
+use frame::frame_entry;
 use ledger::Answer;
 use ledger::Ledger;
 use ledger::Opened;
 use ledger::Reported;
 use ledger::Run;
-use ledger::Step;
 use pools::Receiver;
+
+// The most entries of a run.
+const MOST: u32 = 4294967295;
 
 // The number at i, 0 behind the end.
 fn number_at(numbers: &[u32], i: usize) -> u32
@@ -76,18 +81,31 @@ fn load_ledger(numbers: &[u32]) -> Opened
     }
 }
 
-// A ledger that is refused before any entry.
-fn refuse_run(ledger: Ledger, cause: Cause, place: u64) -> Run
-    ensures { λ r. ⌜ r ≡ record { ledger = ledger; accepted = 0; answer = Answer.Refused cause place } ⌝ }
+// A run that stops behind so many accepted entries and bytes.
+fn stop_run(ledger: Ledger, accepted: u32, used: usize, answer: Answer) -> Run
+    ensures { λ r. ⌜ r ≡ halted ledger accepted used answer ⌝ }
 {
     Run {
         ledger: ledger,
-        accepted: 0,
-        answer: Answer::Refused {
+        accepted: accepted,
+        used: used,
+        answer: answer,
+    }
+}
+
+// A ledger that is refused before any entry.
+fn refuse_run(ledger: Ledger, cause: Cause, place: u64) -> Run
+    ensures { λ r. ⌜ r ≡ halted ledger 0 0 (Answer.Refused cause place) ⌝ }
+{
+    stop_run(
+        ledger,
+        0,
+        0,
+        Answer::Refused {
             cause: cause,
             place: place,
         },
-    }
+    )
 }
 
 // The entries audited by the one call that takes them all.
@@ -99,59 +117,40 @@ fn run_entries(numbers: &[u32], entries: &[u8]) -> Run
     let verdict = opened.verdict;
     match verdict {
         Verdict::Faulty(cause, place) => refuse_run(ledger, cause, place),
-        Verdict::Sound => ledger.audit_entries(entries),
+        Verdict::Sound => ledger.audit_entries(entries, MOST),
     }
-}
-
-// One entry.
-fn audit_one(ledger: Ledger, direction: u8, container: &[u8]) -> Step
-    ensures { λ r. ⌜ r ≡ auditing ledger direction (now (container .entry)) ⌝ }
-{
-    ledger.audit(direction as u32, container)
 }
 
 // The entries audited by a call each, from a ledger.
 fn run_each(first: Ledger, entries: &[u8]) -> Run
     requires { ⌜ ledgerOk first ≡ true ⌝ }
-    ensures { λ r. ⌜ r ≡ runOver first (now (entries .entry)) ⌝ }
+    ensures { λ r. ⌜ r ≡ runOver first most (now (entries .entry)) ⌝ }
 {
     let mut ledger = first;
-    let mut count: usize = 0;
+    let mut count: u32 = 0;
     let mut at: usize = 0;
-    while 257 <= entries.len() - at {
-        let begin = at + 1;
-        let end = at + 257;
-        let step = audit_one(ledger, entries[at], &entries[begin..end]);
+    while count < MOST {
+        let framed = frame_entry(&entries[at..]);
+        let Framed::Whole {
+            number: _,
+            direction,
+            start,
+        } = framed
+        else {
+            return stop_run(ledger, count, at, Answer::Accepted);
+        };
+        let begin = at + start;
+        let end = begin + CONTAINER;
+        let step = ledger.audit(direction as u32, &entries[begin..end]);
         let answer = step.answer;
-        match answer {
-            Answer::Refused { cause: _, place: _ } => {
-                return Run {
-                    ledger: ledger,
-                    accepted: count,
-                    answer: answer,
-                };
-            }
-            Answer::Accepted => {}
+        if let Answer::Refused { cause: _, place: _ } = answer {
+            return stop_run(ledger, count, at, answer);
         }
         ledger = step.ledger;
         count += 1;
         at = end;
     }
-    if at < entries.len() {
-        return Run {
-            ledger: ledger,
-            accepted: count,
-            answer: Answer::Refused {
-                cause: Cause::BrokenRecord,
-                place: at as u64,
-            },
-        };
-    }
-    Run {
-        ledger: ledger,
-        accepted: count,
-        answer: Answer::Accepted,
-    }
+    stop_run(ledger, count, at, Answer::Accepted)
 }
 
 // The entries audited by a call each, from the ledger of the numbers.
@@ -213,7 +212,16 @@ pub extern "C" fn c2c_audit_count(numbers: &[u32], entries: &[u8]) -> usize
     ensures { λ r. ⌜ r ≡ runFrom (now (numbers .entry)) (now (entries .entry)) .accepted ⌝ }
 {
     let run = run_entries(numbers, entries);
-    run.accepted
+    run.accepted as usize
+}
+
+// How many bytes the accepted entries have.
+#[no_mangle]
+pub extern "C" fn c2c_audit_used(numbers: &[u32], entries: &[u8]) -> usize
+    ensures { λ r. ⌜ r ≡ runFrom (now (numbers .entry)) (now (entries .entry)) .used ⌝ }
+{
+    let run = run_entries(numbers, entries);
+    run.used
 }
 
 // The report of a direction and pool behind the entries.

@@ -27,6 +27,7 @@ use Rattle.reader.specs.declared.reader.Judgement.{Judgement}
 use Rattle.reader.specs.declared.reader.Judgement.the-variants as judge
 use Rattle.reader.proofs.PlaceLaws.{refused-place, judged-place}
 use Rattle.ledger.specs.Audit.{ledgerOk, configured, reported}
+use Rattle.ledger.specs.Run.{halted}
 use Rattle.ledger.specs.RunRules.{RunRule}
 use Rattle.ledger.specs.ValidLedger.{ValidLedger}
 use Rattle.pools.specs.declared.receiver.Receiver.{Receiver}
@@ -50,7 +51,7 @@ use Rattle.probe.specs.Judge.{judgeCode}
 use Rattle.probe.specs.Judge as judged
 use Rattle.probe.specs.Fill.{grantFrom, writerFrom, answerCode, Small, sized, asked, fillCode, fillTail, fillContainer}
 use Rattle.probe.proofs.FillLaws.{step-small}
-use Rattle.audit_probe.specs.Audit.{receiverFrom, numbersOk, runFrom, reportFrom}
+use Rattle.audit_probe.specs.Audit.{most, receiverFrom, numbersOk, runFrom, reportFrom}
 use Rattle.reader.specs.Faults.{ReadFault, JudgeFault}
 use Rattle.writer.specs.Faults.{FillFault}
 use Rattle.cause.specs.Order.{Named, None}
@@ -324,15 +325,15 @@ module _ (l e : List ℕ) where
       configured-exactly fm first second .1
       (record { format = v .direction0 .reader .format; receiver0 = v .direction0 .receiver; receiver1 = v .direction1 .receiver })
 
-  run-by : Configures l → (t : Bool) → configured fm first second ≡ t → RunRule (ledgerFrom l) e (runFrom l e)
+  run-by : Configures l → (t : Bool) → configured fm first second ≡ t → RunRule (ledgerFrom l) most e (runFrom l e)
   unfolding runFrom
-  run-by h true q = rw (configures h, q) (run-follows (ledgerFrom l) e)
+  run-by h true q = rw (configures h, q) (run-follows (ledgerFrom l) most e)
   run-by h false q = rw (configures h, q) (RunRule.invalid (λ v. never-both q (described v)))
 
-  audit-run : Configures l → RunRule (ledgerFrom l) e (runFrom l e)
+  audit-run : Configures l → RunRule (ledgerFrom l) most e (runFrom l e)
   audit-run h = run-by h (configured fm first second) refl
 
-  audit-numbers : (Configures l → ⊥) → runFrom l e ≡ record { ledger = ledgerFrom l; accepted = 0; answer = audit.Refused InvalidState 0 }
+  audit-numbers : (Configures l → ⊥) → runFrom l e ≡ halted (ledgerFrom l) 0 0 (audit.Refused InvalidState 0)
   unfolding runFrom
   audit-numbers h = rw (not-true-false (numbersOk l) (λ t. h (numbers t)))
 

@@ -104,10 +104,10 @@ pub record Demand1 : Type 0 where
   pub table : TableOfCauses
   -- "A refusal changes no state and no byte of lent memory"
   pub untouched : Untouched
-  -- a run over entries, with any ledger and any bytes: the only outcome that its rules allow; with a refusal the ledger is the one behind the
-  -- entries accepted before
-  pub run-follows : (s : Ledger) (l : List ℕ) → RunRule s l (runOver s l)
-  pub run-only : (s : Ledger) (l : List ℕ) (r : Run) → RunRule s l r → r ≡ runOver s l
+  -- a run over at most so many entries, with any ledger and any bytes: the only outcome that its rules allow; with a refusal the ledger is
+  -- the one behind the entries accepted before
+  pub run-follows : (s : Ledger) (most : ℕ) (l : List ℕ) → RunRule s most l (runOver s most l)
+  pub run-only : (s : Ledger) (most : ℕ) (l : List ℕ) (r : Run) → RunRule s most l r → r ≡ runOver s most l
   -- a call of the log in parts, with any state and any bytes, likewise
   pub consume-follows : (s : LogReader) (b : List ℕ) (ended : Bool) → Consumes s b ended (consuming s b ended)
   pub consume-only : (s : LogReader) (b : List ℕ) (ended : Bool) (r : Consumed) → Consumes s b ended r → r ≡ consuming s b ended

@@ -10,8 +10,8 @@ use model::message::Kind;
 use crate::make;
 use crate::random::Random;
 
-/// The bytes of an entry as the probe reads it: a direction byte and the container.
-pub const ENTRY: usize = 1 + CONTAINER;
+/// The least bytes of an entry: a number of one byte and the container.
+const ENTRY: usize = 1 + CONTAINER;
 
 /// One container of one direction, at some time.
 #[derive(Clone)]
@@ -21,42 +21,49 @@ pub struct Entry {
     pub container: [u8; CONTAINER],
 }
 
+impl Entry {
+    /// The entry as a log has it.
+    pub fn bytes(&self) -> Vec<u8> {
+        let mut out = Vec::new();
+        write_number(2 * self.ticks + u32::from(self.direction), &mut out);
+        out.extend_from_slice(&self.container);
+        out
+    }
+}
+
 /// A configuration, most of the time of 33 numbers, and entries.
 pub struct Log {
     pub numbers: Vec<u32>,
     pub entries: Vec<Entry>,
-    /// The bytes of an entry that is cut short behind the others, for the probe alone.
+    /// The bytes of an entry that is cut short behind the others.
     pub cut: Vec<u8>,
 }
 
 impl Log {
-    /// The log as the audit program reads it.
-    pub fn bytes(&self) -> Vec<u8> {
+    /// The numbers as a log has them.
+    pub fn number_bytes(&self) -> Vec<u8> {
         let mut out = Vec::new();
         for &number in &self.numbers {
             write_number(number, &mut out);
         }
-        for entry in &self.entries {
-            write_number(2 * entry.ticks + u32::from(entry.direction % 2), &mut out);
-            out.extend_from_slice(&entry.container);
-        }
         out
     }
 
-    /// The entries as the probe reads them, with the one that is cut short.
+    /// The entries as a log has them, with the one that is cut short.
     pub fn entry_bytes(&self) -> Vec<u8> {
-        let mut out = Vec::new();
-        for entry in &self.entries {
-            out.push(entry.direction);
-            out.extend_from_slice(&entry.container);
-        }
+        let mut out: Vec<u8> = self.entries.iter().flat_map(Entry::bytes).collect();
         out.extend_from_slice(&self.cut);
         out
     }
 
-    /// Whether the configuration and every direction are valid.
+    /// The log as the audit program reads it.
+    pub fn bytes(&self) -> Vec<u8> {
+        [self.number_bytes(), self.entry_bytes()].concat()
+    }
+
+    /// Whether the configuration is valid.
     pub fn is_valid(&self) -> bool {
-        Ledger::from_numbers(&self.numbers).is_ok() && self.entries.iter().all(|entry| entry.direction <= 1)
+        Ledger::from_numbers(&self.numbers).is_ok()
     }
 }
 
@@ -68,13 +75,10 @@ pub fn log(random: &mut Random) -> Log {
     let damaged = random.pick(&[3, 20, 100, 1_000_000]);
     let mut ledger = Ledger::from_numbers(&log.numbers).expect("the configuration is valid");
     for _ in 0..count {
-        let mut direction = random.byte_below(2);
+        let direction = random.byte_below(2);
         let mut container = entry(random, &ledger, usize::from(direction), sloppy);
         if random.once_in(damaged) {
             make::damage(random, ledger.format, &mut container);
-        }
-        if random.once_in(2_000) {
-            direction = random.pick(&[2, 3, 128, 255]);
         }
         let ticks = random.pick(&[0, 1, 63, 64, 8_191, 8_192, 2_147_483_647]);
         log.entries.push(Entry { direction, ticks, container });

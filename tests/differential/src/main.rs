@@ -16,11 +16,11 @@ use std::path::Path;
 use std::process::ExitCode;
 use std::time::Instant;
 
-use model::cause::{refusal, Refusal, BROKEN, NOT_VALID};
+use model::cause::{Refusal, BROKEN, NOT_VALID};
 use model::layout::{Format, Grant, CONTAINER};
 use model::ledger::{Ledger, DIRECTIONS, POOLS};
 use model::list::{check, write_list};
-use model::log::verdict;
+use model::log::{verdict, Verdict};
 use model::order::is_returned;
 use model::{reader, writer};
 
@@ -311,10 +311,16 @@ fn run_model(log: &logs::Log) -> proved::Audit {
     let mut ledger = match Ledger::from_numbers(&log.numbers) {
         Ok(ledger) => ledger,
         Err(Refusal { cause, place }) => {
-            return proved::Audit { cause, place, accepted: 0, reports: [[REFUSED_REPORT; POOLS]; DIRECTIONS] };
+            return proved::Audit {
+                cause,
+                place,
+                accepted: 0,
+                used: 0,
+                reports: [[REFUSED_REPORT; POOLS]; DIRECTIONS],
+            };
         }
     };
-    let (mut accepted, mut refused) = (0, None);
+    let (mut accepted, mut used, mut refused) = (0, 0, None);
     for entry in &log.entries {
         match ledger.audit(u32::from(entry.direction), &entry.container) {
             Ok(next) => ledger = next,
@@ -324,15 +330,14 @@ fn run_model(log: &logs::Log) -> proved::Audit {
             }
         }
         accepted += 1;
-    }
-    if refused.is_none() && !log.cut.is_empty() {
-        refused = Some(refusal(BROKEN, logs::ENTRY * accepted));
+        used += entry.bytes().len();
     }
     let report = |direction, pool| (ledger.held(direction, pool) << 32) + ledger.open(direction, pool);
     proved::Audit {
         cause: refused.map_or(0, |r| r.cause),
         place: refused.map_or(0, |r| r.place),
         accepted,
+        used,
         reports: from_fn(|direction| from_fn(|pool| report(direction, pool))),
     }
 }
@@ -343,18 +348,19 @@ fn compare_log(random: &mut Random, tally: &mut Tally, n: usize, program: Option
     let expected = run_model(&log);
     let audited = proved::audit(&log.numbers, &log.entry_bytes());
     let mut bytes = log.bytes();
+    let said = verdict(&bytes);
     if audited != expected {
         let what = format!("c2c_audit, {} numbers, cut entry {}", log.numbers.len(), hex(&log.cut));
         tally.differ(&what, &bytes, &format!("{expected:?}"), &format!("{audited:?}"));
     }
     compare_report(random, tally, &log);
     tally.entries += expected.accepted;
-    let refused = (expected.cause != 0).then_some(Refusal { cause: expected.cause, place: expected.place });
-    tally.count(In::Log, refused);
+    tally.count(In::Log, said.refused);
+    if log.is_valid() {
+        compare_verdict(tally, &log, said, &audited);
+    }
     if random.once_in(4) {
         logs::damage_bytes(random, &mut bytes);
-    } else if log.is_valid() && log.cut.is_empty() {
-        compare_verdict(tally, &bytes, &audited);
     }
     if let (Some(program), 0) = (program, n % AUDITED) {
         let part = programs::PARTS[n / AUDITED % programs::PARTS.len()];
@@ -376,13 +382,13 @@ fn compare_report(random: &mut Random, tally: &mut Tally, log: &logs::Log) {
     }
 }
 
-/// Compares the model's verdict on a log's bytes with the audit of its entries.
-fn compare_verdict(tally: &mut Tally, bytes: &[u8], audited: &proved::Audit) {
-    let expected = verdict(bytes);
-    let cause = expected.refused.map_or(0, |r| r.cause);
-    let place = expected.refused.map_or(0, |r| r.place);
-    if (expected.accepted as usize, cause, place) != (audited.accepted, audited.cause, audited.place) {
-        tally.differ("c2c_audit of a log", bytes, &expected.to_string(), &format!("{audited:?}"));
+/// Compares the model's verdict on a log with the audit of its entries: an entry that is cut short is refused in the log, and left over here.
+fn compare_verdict(tally: &mut Tally, log: &logs::Log, said: Verdict, audited: &proved::Audit) {
+    let behind = (log.number_bytes().len() + audited.used) as u64;
+    let left = (!log.cut.is_empty() && audited.cause == 0).then_some(Refusal { cause: BROKEN, place: behind });
+    let refused = (audited.cause != 0).then_some(Refusal { cause: audited.cause, place: audited.place }).or(left);
+    if (said.accepted as usize, said.refused) != (audited.accepted, refused) {
+        tally.differ("c2c_audit of a log", &log.bytes(), &said.to_string(), &format!("{audited:?}"));
     }
 }
 

@@ -38,6 +38,7 @@ extern "C" {
     fn c2c_audit(numbers: *const u32, n: usize, entries: *const u8, len: usize) -> u32;
     fn c2c_audit_place(numbers: *const u32, n: usize, entries: *const u8, len: usize) -> u64;
     fn c2c_audit_count(numbers: *const u32, n: usize, entries: *const u8, len: usize) -> usize;
+    fn c2c_audit_used(numbers: *const u32, n: usize, entries: *const u8, len: usize) -> usize;
     fn c2c_audit_report(
         numbers: *const u32,
         n: usize,
@@ -122,11 +123,13 @@ pub struct Audit {
     pub cause: u32,
     pub place: u64,
     pub accepted: usize,
+    /// The bytes of the entries accepted.
+    pub used: usize,
     /// The report of each direction and pool.
     pub reports: [[u64; POOLS]; DIRECTIONS],
 }
 
-/// Audits entries, each a direction byte and a container, of which the last may be cut short, from the fresh ledger of 33 numbers.
+/// Audits entries as a log has them, of which the last may be cut short, from the fresh ledger of 33 numbers.
 pub fn audit(numbers: &[u32], entries: &[u8]) -> Audit {
     let reports = from_fn(|direction| from_fn(|pool| report(numbers, entries, direction, pool)));
     let (n, len) = (numbers.len(), entries.len());
@@ -137,6 +140,7 @@ pub fn audit(numbers: &[u32], entries: &[u8]) -> Audit {
             cause: c2c_audit(numbers, n, entries, len),
             place: c2c_audit_place(numbers, n, entries, len),
             accepted: c2c_audit_count(numbers, n, entries, len),
+            used: c2c_audit_used(numbers, n, entries, len),
             reports,
         }
     }

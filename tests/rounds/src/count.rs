@@ -2,7 +2,7 @@
 
 use std::cell::RefCell;
 
-const ZERO_TEST: &str = "container::bytes::is_zero";
+const ZERO_TEST: &str = "slices::bytes::is_zero";
 
 #[derive(Default)]
 struct State {

@@ -9,10 +9,12 @@ mod bench {
     include!(concat!(env!("OUT_DIR"), "/bench.rs"));
 }
 
-use bench::container::{is_zero, Grant};
+use bench::container::Grant;
 use bench::host::c2c_check;
-use bench::ledger::{Answer, Ledger, LogReader, LogVerdict, Outcome};
+use bench::ledger::{Answer, Ledger};
+use bench::log::{LogReader, LogVerdict, Outcome};
 use bench::reader::{Answer as Reading, Judgement, Reader};
+use bench::slices::is_zero;
 use bench::writer::{Answer as Filling, Writer};
 use count::count;
 use states::{ledgers, readers};
@@ -59,7 +61,7 @@ fn entry(direction: u8) -> Vec<u8> {
 }
 
 fn audit_entries(ledger: Ledger, direction: u8) -> usize {
-    accepted(|| matches!(ledger.audit_entries(&entry(direction)).answer, Answer::Accepted))
+    accepted(|| matches!(ledger.audit_entries(&entry(direction), 1).answer, Answer::Accepted))
 }
 
 /// The one entry of a log behind its configuration of 33 bytes.

@@ -3,7 +3,8 @@
 use std::iter::once;
 
 use crate::bench::container::{locate_granule, locate_header};
-use crate::bench::ledger::{Ledger, Receiver};
+use crate::bench::ledger::Ledger;
+use crate::bench::pools::Receiver;
 use crate::bench::reader::Reader;
 
 /// The types of the messages that can be carried: ReqL, DataS, DataL, WrReqDataS and WrReqDataL.
