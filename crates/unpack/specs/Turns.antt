@@ -4,7 +4,7 @@ use mathlib.Core.Path.{_≡_}
 use mathlib.Core.Bool.{Bool, true, false}
 use mathlib.Core.List.{List, _++_}
 use lib.ListN.{length}
-use Rattle.lists.specs.Parts.{part}
+use Rattle.lists.specs.Parts.{part, put}
 use Rattle.unpacker.specs.Stepping.{turn}
 use Rattle.unpacker.specs.Cutting.{leftBy}
 use Rattle.unpacker.specs.declared.unpack.Unpacker.{Unpacker}
@@ -14,11 +14,15 @@ use Rattle.unpack.specs.declared.Progress.the-variants.{On, Over, Failed
 use Rattle.unpack.specs.declared.Window.{Window}
 use Rattle.unpack.specs.declared.Turn.{Turn}
 
--- the bytes b are at hand in a window over a buffer
+-- the bytes of a buffer that a window holds
+abbrev pub held : Window → List ℕ → List ℕ
+held w buf = part (w .at) (w .have - w .at) buf
+
+-- a window inside its buffer that holds the bytes b
 pub record AtHand (w : Window) (buf b : List ℕ) : Type 0 where
   pub inside : w .at ≤ w .have
   pub within : w .have ≤ length buf
-  pub bytes : part (w .at) (w .have - w .at) buf ≡ b
+  pub bytes : held w buf ≡ b
 
 -- a refill behind the bytes b: more of them, the end of the input, or a read that has failed
 pub data Filled (b buf : List ℕ) (w : Window) : Type 0 where
@@ -37,3 +41,7 @@ pub record Taken (s : Unpacker) (b : List ℕ) (ended : Bool) (buf : List ℕ) (
   pub next : r .unpacker ≡ turn s b ended .next
   pub written : r .written ≡ length (turn s b ended .text)
   pub window : Follows (leftBy (turn s b ended) b) ended buf (r .window) (turn s b ended .outcome)
+
+-- the room behind a turn: the text of the call at its front
+abbrev pub printed : Unpacker → List ℕ → Bool → List ℕ → List ℕ
+printed s b ended room = put 0 (turn s b ended .text) room

@@ -3,9 +3,9 @@
 ghost use mathlib.Core.Path.{_≡_};
 ghost use Prim.Native.Nat.{_-_, _≤_};
 ghost use lib.ListN.{length};
-ghost use Rattle.lists.specs.Parts.{part, put};
-ghost use Rattle.unpacker.specs.Stepping.{leastRoom, turn};
-ghost use Rattle.unpack.specs.Turns.{Filled, Taken};
+ghost use Rattle.lists.specs.Parts.{part};
+ghost use Rattle.unpacker.specs.Stepping.{leastRoom};
+ghost use Rattle.unpack.specs.Turns.{held, Filled, Taken, printed};
 use input::Refill;
 use input::read_more;
 use libc::STDOUT_FILENO;
@@ -65,8 +65,8 @@ fn refill(buf: &mut [u8], at: usize, have: usize) -> Window
 // One turn: a call on the bytes at hand, and a refill where it asks for more.
 fn take_turn(unpacker: Unpacker, window: Window, buf: &mut [u8], room: &mut [u8]) -> Turn
     requires { ⌜ (window .at ≤ window .have) × (window .have ≤ length (now buf)) × (leastRoom ≤ length (now room)) ⌝ }
-    ensures turn { λ r. ⌜ Taken unpacker (part (window .at) (window .have - window .at) (now (buf .entry))) (window .ended) (now (buf .exit)) r ⌝ }
-    ensures room { λ _. ⌜ now (room .exit) ≡ put 0 (turn unpacker (part (window .at) (window .have - window .at) (now (buf .entry))) (window .ended) .text) (now (room .entry)) ⌝ }
+    ensures turn { λ r. ⌜ Taken unpacker (held window (now (buf .entry))) (window .ended) (now (buf .exit)) r ⌝ }
+    ensures room { λ _. ⌜ now (room .exit) ≡ printed unpacker (held window (now (buf .entry))) (window .ended) (now (room .entry)) ⌝ }
 {
     let at = window.at;
     let have = window.have;

@@ -11,7 +11,9 @@ use Rattle.unpack.proofs.unpack_input.Statement.{statement}
 use Rattle.unpack.proofs.unpack_input.Tie as tie
 
 abbrev Inv-loop : tie.InvT-loop
-Inv-loop buf₀ room₀ unpacker₀ window₀ t8 t9 buf room unpacker window = (length buf ≡ 65536) × (length buf ≡ length buf₀) × (length room ≡ length room₀) × (leastRoom ≤ length room) × (window .at ≤ window .have) × (window .have ≤ length buf)
+Inv-loop buf₀ room₀ unpacker₀ window₀ t8 t9 buf room unpacker window =
+    (length buf ≡ 65536) × (length buf ≡ length buf₀) × (length room ≡ length room₀) × (leastRoom ≤ length room)
+    × (window .at ≤ window .have) × (window .have ≤ length buf)
 
 abbrev μ-loop : tie.MeasureT-loop
 μ-loop buf₀ room₀ unpacker₀ window₀ t8 t9 buf room unpacker window = distance unpacker window
@@ -63,26 +65,38 @@ enum-told : tie.Need-enum-told Inv-loop μ-loop
 enum-told c = search needs
 
 -- the buffer and the room keep their lengths
-buf-long : (c : tie.After-enum-told Inv-loop μ-loop) → length (c .before .before .before .before .before .before .before .before .before .before .before .before .take-turn .last .1 .1 .0) ≡ length (c .before .before .before .before .before .before .before .before .before .before .before .before .before .before .before .loop .buf)
+buf-long : (c : tie.After-enum-told Inv-loop μ-loop)
+    → let t = c .before .before .before .before .before .before .before .before .before .before .before .before in
+    length (t .take-turn .last .1 .1 .0) ≡ length (t .before .before .before .loop .buf)
 buf-long c = search needs
 
-room-long : (c : tie.After-enum-told Inv-loop μ-loop) → length (c .before .before .before .before .before .before .before .before .before .before .before .before .take-turn .last .1 .1 .1 .0) ≡ length (c .before .before .before .before .before .before .before .before .before .before .before .before .before .before .before .loop .room)
+room-long : (c : tie.After-enum-told Inv-loop μ-loop)
+    → let t = c .before .before .before .before .before .before .before .before .before .before .before .before in
+    length (t .take-turn .last .1 .1 .1 .0) ≡ length (t .before .before .before .loop .room)
 room-long c = search needs
 
 -- a turn that goes on
-turned : (c : tie.After-enum-told Inv-loop μ-loop) → let h = c .before .before .before .before .before .before .before .before .before .before .before .before .before .before .before in
-    let t = c .before .before .before .before .before .before .before .before .before .before .before .before .take-turn in Nearer (h .loop .unpacker) (h .loop .window) (t .last .1 .1 .0) (t .result)
+turned : (c : tie.After-enum-told Inv-loop μ-loop)
+    → let early = c .before .before .before .before .before in
+    let h = early .before .before .before .before .before .before .before .before .before .before in
+    let t = c .before .before .before .before .before .before .before .before .before .before .before .before .take-turn in
+    Nearer (h .loop .unpacker) (h .loop .window) (t .last .1 .1 .0) (t .result)
 turned c =
-    let h = c .before .before .before .before .before .before .before .before .before .before .before .before .before .before .before in
+    let c12 = c .before .before .before .before .before .before .before .before .before .before .before .before in
+    let c15 = c12 .before .before .before in
+    let t = c12 .take-turn in
+    let h = c15 in
     let i = h .loop .inv in
-    nearer (h .loop .unpacker) (h .loop .window) (h .loop .buf) _ _ (i .4) (i .5) (buf-long c ∙ i .0) (i .0) (c .before .before .before .before .before .before .before .before .before .before .before .before .take-turn .ensures .0) (c .enum-told .given .1)
+    nearer (h .loop .unpacker) (h .loop .window) (h .loop .buf) _ _ (i .4) (i .5) (buf-long c ∙ i .0) (t .ensures .0)
+    (c .enum-told .given .1)
 
 loop-less : tie.Need-loop-less Inv-loop μ-loop
 loop-less c = turned c .less
 
 loop-again : tie.Need-loop-again Inv-loop μ-loop
 loop-again c =
-    let i = c .before .before .before .before .before .before .before .before .before .before .before .before .before .before .before .loop .inv in
+    let c15 = c .before .before .before .before .before .before .before .before .before .before .before .before .before .before .before in
+    let i = c15 .loop .inv in
     let r = turned c in
     (buf-long c ∙ i .0, buf-long c ∙ i .1, room-long c ∙ i .2, omega (arith, room-long c, i .3), r .inside, r .within)
 
