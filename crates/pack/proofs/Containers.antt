@@ -46,7 +46,8 @@ containers-none zero fm t l e = refl
 containers-none (suc k) fm t l e = rw e
 
 pub containers-more : (k : ℕ) (fm : Format) (t l : List ℕ) → (eqb (length t) 0 && eqb (length l) 0) ≡ false
-    → containersOf (suc k) fm t l ≡ filled fm zeroGrant t l ∷ containersOf k fm (owesAfter fm zeroGrant t l) (drop (usedOf fm zeroGrant t l) l)
+    → containersOf (suc k) fm t l ≡ filled fm zeroGrant t l ∷ containersOf k fm (owesAfter fm zeroGrant t l)
+    (drop (usedOf fm zeroGrant t l) l)
 unfolding containersOf
 containers-more k fm t l e = rw e
 
@@ -76,7 +77,8 @@ module _ (f : ℕ) (small : f < 2) (l : List ℕ) (hb : IsBytes l) (short : leng
       → (eqb (length t) 0 && eqb (length (drop at l)) 0) ≡ true → Behind cs j at t
   ends j at w t cs e within done test =
       let none-owed : length t ≡ 0 = eqb-true (length t) 0 (and-left (eqb (length t) 0) (eqb (length (drop at l)) 0) test) in
-      let none-left : length (drop at l) ≡ 0 = eqb-true (length (drop at l)) 0 (and-right (eqb (length t) 0) (eqb (length (drop at l)) 0) test) in
+      let none-left : length (drop at l) ≡ 0 = eqb-true (length (drop at l)) 0
+      (and-right (eqb (length t) 0) (eqb (length (drop at l)) 0) test) in
       let reached : at ≡ length l = omega (arith, length-drop at l) in
       record {
         used-up = record {
@@ -103,7 +105,8 @@ module _ (f : ℕ) (small : f < 2) (l : List ℕ) (hb : IsBytes l) (short : leng
       and-both (eqb (length t) 0) (eqb (length (drop at l)) 0) (eq-eqb (length t) 0 none-owed) (eq-eqb (length (drop at l)) 0 none-left)
 
   -- one fill more
-  module _ (k at : ℕ) (w : Writer) (t : List ℕ) (cs : List (List ℕ)) (g : Going f l k at w) (e : w ≡ writerWith f t) (done : Fillings cs at w) where
+  module _ (k at : ℕ) (w : Writer) (t : List ℕ) (cs : List (List ℕ)) (g : Going f l k at w) (e : w ≡ writerWith f t)
+      (done : Fillings cs at w) where
     abbrev fm : Format
     fm = formatOf f
 
@@ -118,7 +121,8 @@ module _ (f : ℕ) (small : f < 2) (l : List ℕ) (hb : IsBytes l) (short : leng
 
     call : Fills w (drop at l) zeroGrant c u (writerWith f t′)
     call =
-        subst (λ (x : List ℕ). Fills w (drop at l) zeroGrant (filled fm zeroGrant x (drop at l)) (usedOf fm zeroGrant x (drop at l)) (writerWith f (owesAfter fm zeroGrant x (drop at l)))) (owed k at w t g e)
+        subst (λ (x : List ℕ). Fills w (drop at l) zeroGrant (filled fm zeroGrant x (drop at l)) (usedOf fm zeroGrant x (drop at l))
+        (writerWith f (owesAfter fm zeroGrant x (drop at l)))) (owed k at w t g e)
         (going-fills f l k at w g zeroGrant (quiet 0 .low) (quiet 0 .allowed) small hb short)
 
     going : Going f l (k - 1) (at + u) (writerWith f t′)
@@ -127,7 +131,8 @@ module _ (f : ℕ) (small : f < 2) (l : List ℕ) (hb : IsBytes l) (short : leng
     more : Fillings (cs ++ (c ∷ [])) (at + u) (writerWith f t′)
     more = one-more f small l hb short (λ i. zeroGrant) quiet cs at w c u (writerWith f t′) done call
 
-    onward : (j : ℕ) → (eqb (length t) 0 && eqb (length (drop at l)) 0) ≡ false → Behind (cs ++ (c ∷ [])) j (at + u) t′ → Behind cs (suc j) at t
+    onward : (j : ℕ) → (eqb (length t) 0 && eqb (length (drop at l)) 0) ≡ false → Behind (cs ++ (c ∷ [])) j (at + u) t′
+        → Behind cs (suc j) at t
     onward j test r =
         let few = r .used-up .few in
         record {
@@ -145,7 +150,8 @@ module _ (f : ℕ) (small : f < 2) (l : List ℕ) (hb : IsBytes l) (short : leng
         }
 
   -- j fills finish j messages
-  goes : (j k at : ℕ) (w : Writer) (t : List ℕ) (cs : List (List ℕ)) → Going f l k at w → w ≡ writerWith f t → Fillings cs at w → k ≤ j → Behind cs j at t
+  goes : (j k at : ℕ) (w : Writer) (t : List ℕ) (cs : List (List ℕ)) → Going f l k at w → w ≡ writerWith f t → Fillings cs at w → k ≤ j
+      → Behind cs j at t
   goes zero k at w t cs g e done b =
       let z : k ≡ 0 = omega arith in
       ends zero at w t cs e (g .left .within) done (unfinished-left at w t (subst (λ (i : ℕ). Going f l i at w) z g) e)
@@ -153,7 +159,8 @@ module _ (f : ℕ) (small : f < 2) (l : List ℕ) (hb : IsBytes l) (short : leng
       ⊎-elim (λ (test : (eqb (length t) 0 && eqb (length (drop at l)) 0) ≡ true). ends (suc j) at w t cs e (g .left .within) done test)
       (λ (test : (eqb (length t) 0 && eqb (length (drop at l)) 0) ≡ false).
       onward k at w t cs g e done j test
-      (goes j (k - 1) (at + u k at w t cs g e done) (writerWith f (t′ k at w t cs g e done)) (t′ k at w t cs g e done) (cs ++ (c k at w t cs g e done ∷ [])) (going k at w t cs g e done) refl (more k at w t cs g e done) (omega arith)))
+      (goes j (k - 1) (at + u k at w t cs g e done) (writerWith f (t′ k at w t cs g e done)) (t′ k at w t cs g e done)
+      (cs ++ (c k at w t cs g e done ∷ [])) (going k at w t cs g e done) refl (more k at w t cs g e done) (omega arith)))
       (cases (eqb (length t) 0 && eqb (length (drop at l)) 0))
 
 -- ---- the number of records
@@ -176,13 +183,15 @@ unfolding fillFault
 list-sound f l e = both-sound (firstFault (callChecks (writerWith f []) (length l) zeroGrant 256)) (listFault l) e .1
 
 -- a list that the first fill accepts
-pub list-carried : (f : ℕ) (l : List ℕ) → IsBytes l → f < 2 → fillFault (writerWith f []) l zeroGrant 256 ≡ Sound → CarriesAll f l (listOutput f l)
+pub list-carried : (f : ℕ) (l : List ℕ) → IsBytes l → f < 2 → fillFault (writerWith f []) l zeroGrant 256 ≡ Sound
+    → CarriesAll f l (listOutput f l)
 list-carried f l hb small e =
     let short = fill-callable (writerWith f []) l zeroGrant 256 e .short in
     let ms = list-left l hb (list-sound f l e) in
     let count = ap length (ms .1 .records) in
     let few : length (ms .0) ≤ mostContainers = omega (arith, records-few (ms .0) (ms .1 .all)) in
-    let r = goes f small l hb short mostContainers (length (ms .0)) 0 (writerWith f []) [] [] (going-first f l (ms .0) (ms .1)) refl none few in
+    let r = goes f small l hb short mostContainers (length (ms .0)) 0 (writerWith f []) [] [] (going-first f l (ms .0) (ms .1)) refl none
+    few in
     record {
       used-up = r .used-up;
       output = ap (λ (v : Verdict). outputOf v (containersOf mostContainers (formatOf f) [] l)) e ∙ ap joinAll (sym (r .all));
@@ -195,7 +204,8 @@ pub messages-carried : (f : ℕ) (ms : List (List ℕ)) → f < 2 → IsBytes (r
 unfolding packOutput
 messages-carried f ms small hb a short =
     let l = recordsOf ms in
-    let sound = call-sound f zeroGrant [] [] l ms small (omega arith) refl idle (record { within = omega arith; records = refl; all = a }) hb short 256 refl in
+    let sound = call-sound f zeroGrant [] [] l ms small (omega arith) refl idle (record { within = omega arith; records = refl; all = a })
+    hb short 256 refl in
     let out : outputBehind (number f ++ l) (readNumber (number f ++ l)) ≡ listOutput f l =
     ap (outputBehind (number f ++ l)) (written-read f l (omega arith))
     ∙ ap (λ (t : Bool). pick t (listOutput f (drop (length (number f)) (number f ++ l))) (refusalLine InvalidState 0)) (lt-ltb f 2 small)

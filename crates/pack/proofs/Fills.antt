@@ -84,13 +84,15 @@ module _ (f : ℕ) (small : f < 2) (l : List ℕ) (hb : IsBytes l) where
 
     call : Fills w (drop at l) zeroGrant box used next
     call =
-        subst (λ (x : List ℕ). Fills w (drop at l) zeroGrant (filled fm zeroGrant x (drop at l)) (usedOf fm zeroGrant x (drop at l)) (writerWith f (owesAfter fm zeroGrant x (drop at l)))) (sym owes)
+        subst (λ (x : List ℕ). Fills w (drop at l) zeroGrant (filled fm zeroGrant x (drop at l)) (usedOf fm zeroGrant x (drop at l))
+        (writerWith f (owesAfter fm zeroGrant x (drop at l)))) (sym owes)
         (going-fills f l (g .0) at w (g .1) zeroGrant (omega arith) refl small hb few)
 
     whole-box : length box ≡ 256
     whole-box =
         ap (λ (x : List ℕ). length (filled fm zeroGrant x (drop at l))) owes
-        ∙ box-length f zeroGrant (omega arith) refl (g .1 .carry) t (drop at l) (g .1 .rest) (g .1 .link) (left-here l at (g .1 .rest) (g .1 .left))
+        ∙ box-length f zeroGrant (omega arith) refl (g .1 .carry) t (drop at l) (g .1 .rest) (g .1 .link)
+        (left-here l at (g .1 .rest) (g .1 .left))
 
     onward : Under f l next (at + used)
     onward = (g .0 - 1, going-more f l (g .0) at w (g .1) zeroGrant refl box used next call)
@@ -110,7 +112,8 @@ pub record Packed (f : ℕ) (l d₀ d : List ℕ) (w : Writer) (at to : ℕ) : T
   pub room : d ≡ put 0 text d₀
   pub long : length d ≡ length d₀
   pub owed : w .len ≡ length (tailOf w)
-  pub rest : joinAll (containersOf mostContainers (formatOf f) [] l) ≡ text ++ joinAll (containersOf left (formatOf f) (tailOf w) (drop at l))
+  pub rest : joinAll (containersOf mostContainers (formatOf f) [] l)
+      ≡ text ++ joinAll (containersOf left (formatOf f) (tailOf w) (drop at l))
   pub standing : Standing f l w at to
 
 pub packed-none : (f : ℕ) (l d : List ℕ) (w : Writer) → w ≡ writerWith f [] → Packed f l d d w 0 0
@@ -142,7 +145,12 @@ module _ (f : ℕ) (l d₀ d : List ℕ) (w : Writer) (at to : ℕ) (h : Packed 
       ap (λ (v : Verdict). outputOf v (containersOf mostContainers (formatOf f) [] l)) s
       ∙ h .rest ∙ ap (λ (x : List (List ℕ)). h .text ++ joinAll x) e ∙ append-nil (h .text) in
       let b = h .bound in
-      record { end = sym (ap length all ∙ h .reached); room = h .room ∙ ap (λ (x : List ℕ). put 0 x d₀) (sym all); within = omega arith; long = h .long }
+      record {
+        end = sym (ap length all ∙ h .reached);
+        room = h .room ∙ ap (λ (x : List ℕ). put 0 x d₀) (sym all);
+        within = omega arith;
+        long = h .long;
+      }
 
   pub packed-out : mostOutput ≤ to → Done f l d₀ d to
   packed-out b =
@@ -155,7 +163,8 @@ module _ (f : ℕ) (l d₀ d : List ℕ) (w : Writer) (at to : ℕ) (h : Packed 
     pub packed-done : (eqb (w .len) 0 && eqb (length l - at) 0) ≡ true → Done f l d₀ d to
     packed-done test =
         let owed : (eqb (length (tailOf w)) 0 && eqb (length (drop at l)) 0) ≡ true =
-        ap (λ (k : ℕ). eqb k 0 && eqb (length (drop at l)) 0) (sym (h .owed)) ∙ ap (λ (k : ℕ). eqb (w .len) 0 && eqb k 0) (length-drop at l) ∙ test in
+        ap (λ (k : ℕ). eqb k 0 && eqb (length (drop at l)) 0) (sym (h .owed)) ∙ ap (λ (k : ℕ). eqb (w .len) 0 && eqb k 0) (length-drop at l)
+        ∙ test in
         let none : length l - at ≡ 0 = eqb-true (length l - at) 0 (and-right (eqb (w .len) 0) (eqb (length l - at) 0) test) in
         ended (containers-none (h .left) (formatOf f) (tailOf w) (drop at l) owed)
         (⊎-elim (λ a. let z = a .0 in empty-sound (length-zero l (omega arith))) (λ b. b .0) (h .standing))
@@ -189,18 +198,23 @@ module _ (f : ℕ) (l d₀ d : List ℕ) (w : Writer) (at to : ℕ) (h : Packed 
       became = ed ∙ ap (λ (x : List ℕ). fillBytes w x zeroGrant part) (rest-is l at)
 
       first : at ≡ 0 → w ≡ writerWith f [] → r ≡ filling (writerWith f []) l zeroGrant 256
-      first ea ew = step ∙ ap (λ (x : Writer). filling x (drop at l) zeroGrant 256) ew ∙ ap (λ (k : ℕ). filling (writerWith f []) (drop k l) zeroGrant 256) ea
+      first ea ew =
+          step ∙ ap (λ (x : Writer). filling x (drop at l) zeroGrant 256) ew ∙ ap
+          (λ (k : ℕ). filling (writerWith f []) (drop k l) zeroGrant 256) ea
 
-      answered : at ≡ 0 → w ≡ writerWith f [] → answerOf (found f l) (usedOf (formatOf f) zeroGrant (tailOf (writerWith f [])) l) ≡ r .answer
+      answered : at ≡ 0 → w ≡ writerWith f []
+          → answerOf (found f l) (usedOf (formatOf f) zeroGrant (tailOf (writerWith f [])) l) ≡ r .answer
       unfolding filling
       answered ea ew = sym (ap (λ (x : Step). x .answer) (first ea ew))
 
       -- ---- a refusal
 
-      refused-first : (c : Cause) (p : ℕ) → r .answer ≡ answer.Refused c p → (found f l ≡ Faulty c p) × (at ≡ 0) × (w ≡ writerWith f []) × (to ≡ 0)
+      refused-first : (c : Cause) (p : ℕ) → r .answer ≡ answer.Refused c p
+          → (found f l ≡ Faulty c p) × (at ≡ 0) × (w ≡ writerWith f []) × (to ≡ 0)
       refused-first c p q =
           ⊎-elim (λ a. (filling-faulty (found f l) _ c p (answered (a .0) (a .1) ∙ q), a .0, a .1, a .2))
-          (λ b. absurd (never-both (r .answer) _ c p (ap (λ (x : Step). x .answer) step ∙ call f small l hb (short f small l hb (b .0)) w at (b .1) .answer) q)) (h .standing)
+          (λ b. absurd (never-both (r .answer) _ c p
+          (ap (λ (x : Step). x .answer) step ∙ call f small l hb (short f small l hb (b .0)) w at (b .1) .answer) q)) (h .standing)
 
       -- nothing has changed
       unchanged : (c : Cause) (p : ℕ) → r .answer ≡ answer.Refused c p → putMid to ((to + 256) - to) d d′ ≡ d₀
@@ -208,18 +222,23 @@ module _ (f : ℕ) (l d₀ d : List ℕ) (w : Writer) (at to : ℕ) (h : Packed 
       unchanged c p q =
           let a = refused-first c p q in
           let v : fillFault w (drop at l) zeroGrant (length part) ≡ Faulty c p =
-          ap (fillFault w (drop at l) zeroGrant) long-part ∙ ap (λ (x : Writer). fillFault x (drop at l) zeroGrant 256) (a .2) ∙ ap (λ (k : ℕ). fillFault (writerWith f []) (drop k l) zeroGrant 256) (a .1) ∙ a .0 in
-          let same : d′ ≡ part = became ∙ ap (λ (x : Verdict). whenSound x (filled (formatOf (w .format)) zeroGrant (tailOf w) (drop at l)) part) v in
+          ap (fillFault w (drop at l) zeroGrant) long-part ∙ ap (λ (x : Writer). fillFault x (drop at l) zeroGrant 256) (a .2) ∙ ap
+          (λ (k : ℕ). fillFault (writerWith f []) (drop k l) zeroGrant 256) (a .1) ∙ a .0 in
+          let same : d′ ≡ part = became ∙ ap
+          (λ (x : Verdict). whenSound x (filled (formatOf (w .format)) zeroGrant (tailOf w) (drop at l)) part) v in
           let none : h .text ≡ [] = length-zero (h .text) (h .reached ∙ a .3) in
-          ap (putMid to ((to + 256) - to) d) same ∙ put-same to ((to + 256) - to) d ∙ h .room ∙ ap (λ (x : List ℕ). put 0 x d₀) none ∙ put-none 0 d₀
+          ap (putMid to ((to + 256) - to) d) same ∙ put-same to ((to + 256) - to) d ∙ h .room ∙ ap (λ (x : List ℕ). put 0 x d₀) none
+          ∙ put-none 0 d₀
 
       pub packed-refused : (c : Cause) (p : ℕ) → r .answer ≡ answer.Refused c p → (n : ℕ) (e : List ℕ)
-          → n ≡ textAnswer (refusalLine c p) (putMid to ((to + 256) - to) d d′) → e ≡ roomOf (refusalLine c p) (putMid to ((to + 256) - to) d d′) → Done f l d₀ e n
+          → n ≡ textAnswer (refusalLine c p) (putMid to ((to + 256) - to) d d′) → e ≡ roomOf (refusalLine c p)
+          (putMid to ((to + 256) - to) d d′) → Done f l d₀ e n
       packed-refused c p q n e en ee =
           let line = refusalLine c p in
           let u = unchanged c p q in
           let large : ltb (length d₀) 64 ≡ false = le-ltb (length d₀) 64 (omega arith) in
-          let out : listOutput f l ≡ line = ap (λ (v : Verdict). outputOf v (containersOf mostContainers (formatOf f) [] l)) (refused-first c p q .0) in
+          let out : listOutput f l ≡ line = ap (λ (v : Verdict). outputOf v (containersOf mostContainers (formatOf f) [] l))
+          (refused-first c p q .0) in
           let size : n ≡ length line = en ∙ ap (textAnswer line) u ∙ ap (λ (t : Bool). pick t 0 (length line)) large in
           let short-line = refusal-most c p in
           let over : e ≡ put 0 line d₀ = ee ∙ ap (roomOf line) u ∙ ap (λ (t : Bool). pick t d₀ (put 0 line d₀)) large in
@@ -235,13 +254,15 @@ module _ (f : ℕ) (l d₀ d : List ℕ) (w : Writer) (at to : ℕ) (h : Packed 
       module _ (u : ℕ) (q : r .answer ≡ answer.Filled u) where
         going : (found f l ≡ Sound) × Under f l w at
         going =
-            ⊎-elim (λ a. let e = filling-sound (found f l) _ u (answered (a .0) (a .1) ∙ q) .0 in (e, rw (a .0, a .1) (starts f small l hb e)))
+            ⊎-elim (λ a. let e = filling-sound (found f l) _ u (answered (a .0) (a .1) ∙ q) .0 in
+            (e, rw (a .0, a .1) (starts f small l hb e)))
             (λ b. b) (h .standing)
 
         few-bytes : length l ≤ 4096
         few-bytes = short f small l hb (going .0)
 
-        filled-call : Fills w (drop at l) zeroGrant (filled (formatOf f) zeroGrant (tailOf w) (drop at l)) (usedOf (formatOf f) zeroGrant (tailOf w) (drop at l)) (writerWith f (owesAfter (formatOf f) zeroGrant (tailOf w) (drop at l)))
+        filled-call : Fills w (drop at l) zeroGrant (filled (formatOf f) zeroGrant (tailOf w) (drop at l))
+            (usedOf (formatOf f) zeroGrant (tailOf w) (drop at l)) (writerWith f (owesAfter (formatOf f) zeroGrant (tailOf w) (drop at l)))
         filled-call = call f small l hb few-bytes w at (going .1)
 
         used-is : usedOf (formatOf f) zeroGrant (tailOf w) (drop at l) ≡ u
@@ -280,17 +301,22 @@ module _ (f : ℕ) (l d₀ d : List ℕ) (w : Writer) (at to : ℕ) (h : Packed 
 
         module _ (test : (eqb (w .len) 0 && eqb (length l - at) 0) ≡ false) where
           owed-left : (eqb (length (tailOf w)) 0 && eqb (length (drop at l)) 0) ≡ false
-          owed-left = ap (λ (k : ℕ). eqb k 0 && eqb (length (drop at l)) 0) (sym (h .owed)) ∙ ap (λ (k : ℕ). eqb (w .len) 0 && eqb k 0) (length-drop at l) ∙ test
+          owed-left =
+              ap (λ (k : ℕ). eqb k 0 && eqb (length (drop at l)) 0) (sym (h .owed)) ∙ ap (λ (k : ℕ). eqb (w .len) 0 && eqb k 0)
+              (length-drop at l) ∙ test
 
           rest-more : (j : ℕ) → h .left ≡ suc j
-              → joinAll (containersOf mostContainers (formatOf f) [] l) ≡ (h .text ++ full) ++ joinAll (containersOf j (formatOf f) (tailOf (r .writer)) (drop (at + u) l))
+              → joinAll (containersOf mostContainers (formatOf f) [] l) ≡ (h .text ++ full) ++ joinAll
+              (containersOf j (formatOf f) (tailOf (r .writer)) (drop (at + u) l))
           rest-more j e =
               let fm = formatOf f in
               let tail : tailOf (r .writer) ≡ owesAfter fm zeroGrant (tailOf w) (drop at l) = ap tailOf next-is ∙ tail-of f _ in
-              let list : drop (at + u) l ≡ drop (usedOf fm zeroGrant (tailOf w) (drop at l)) (drop at l) = sym (drop-drop u at l) ∙ ap (λ (k : ℕ). drop k (drop at l)) (sym used-is) in
+              let list : drop (at + u) l ≡ drop (usedOf fm zeroGrant (tailOf w) (drop at l)) (drop at l) = sym (drop-drop u at l) ∙ ap
+              (λ (k : ℕ). drop k (drop at l)) (sym used-is) in
               h .rest ∙ ap (λ (k : ℕ). h .text ++ joinAll (containersOf k fm (tailOf w) (drop at l))) e
               ∙ ap (λ (x : List (List ℕ)). h .text ++ joinAll x) (containers-more j fm (tailOf w) (drop at l) owed-left)
-              ∙ ap (λ (x : List ℕ). h .text ++ (full ++ joinAll (containersOf j fm x (drop (usedOf fm zeroGrant (tailOf w) (drop at l)) (drop at l))))) (sym tail)
+              ∙ ap (λ (x : List ℕ). h .text
+              ++ (full ++ joinAll (containersOf j fm x (drop (usedOf fm zeroGrant (tailOf w) (drop at l)) (drop at l))))) (sym tail)
               ∙ ap (λ (x : List ℕ). h .text ++ (full ++ joinAll (containersOf j fm (tailOf (r .writer)) x))) (sym list)
               ∙ sym (append-assoc (h .text) full _)
 
@@ -307,7 +333,8 @@ module _ (f : ℕ) (l d₀ d : List ℕ) (w : Writer) (at to : ℕ) (h : Packed 
                 bound = omega arith;
                 room = behind;
                 long = ap length behind ∙ length-put 0 (h .text ++ full) d₀ (omega (arith, long-text));
-                owed = subst (λ (x : Writer). x .len ≡ length (tailOf x)) (sym next-is) (sym (ap length (tail-of f (owesAfter (formatOf f) zeroGrant (tailOf w) (drop at l)))));
+                owed = subst (λ (x : Writer). x .len ≡ length (tailOf x)) (sym next-is)
+                    (sym (ap length (tail-of f (owesAfter (formatOf f) zeroGrant (tailOf w) (drop at l)))));
                 rest = rest-more j e;
                 standing = inr (going .0, under);
               }

@@ -39,7 +39,8 @@ pub too-small : (l d : List ℕ) → length d < mostOutput → Packs l d d 0
 too-small l d h = let t = lt-ltb (length d) mostOutput h in record { end = rw t; room = rw t; within = omega arith; long = refl }
 
 -- an output at the front of a room that is large enough
-packs : (l d₀ d out : List ℕ) (n : ℕ) → mostOutput ≤ length d₀ → packOutput l ≡ out → length out ≤ mostOutput → n ≡ length out → d ≡ put 0 out d₀ → Packs l d₀ d n
+packs : (l d₀ d out : List ℕ) (n : ℕ) → mostOutput ≤ length d₀ → packOutput l ≡ out → length out ≤ mostOutput → n ≡ length out
+    → d ≡ put 0 out d₀ → Packs l d₀ d n
 packs l d₀ d out n big e few en ed =
     let t = le-ltb (length d₀) mostOutput big in
     let same : length d ≡ length d₀ = ap length ed ∙ length-put 0 out d₀ (omega arith) in
@@ -81,7 +82,9 @@ module _ (l d₀ d : List ℕ) (n : ℕ) (big : mostOutput ≤ length d₀) (r :
         never t = let k = rw t at (sym verdict ∙ e) in let z : _≡_ {A = ℕ} 0 1 = cc in omega arith
 
     no-format : (c : Cause) (p : ℕ) → o .verdict ≡ Faulty c p → packOutput l ≡ refusalLine c p
-    no-format c p e = ⊎-elim (λ (t : ltb f 2 ≡ true). absurd (never t)) (λ (t : ltb f 2 ≡ false). other t ∙ same (rw t at (sym verdict ∙ e))) (cases (ltb f 2))
+    no-format c p e =
+        ⊎-elim (λ (t : ltb f 2 ≡ true). absurd (never t)) (λ (t : ltb f 2 ≡ false). other t ∙ same (rw t at (sym verdict ∙ e)))
+        (cases (ltb f 2))
       where
         never : ltb f 2 ≡ true → ⊥
         never t = let k = rw t at (sym verdict ∙ e) in let z : _≡_ {A = ℕ} 0 1 = cc in omega arith
@@ -92,10 +95,12 @@ module _ (l d₀ d : List ℕ) (n : ℕ) (big : mostOutput ≤ length d₀) (r :
         other : ltb f 2 ≡ false → packOutput l ≡ refusalLine InvalidState 0
         other t = behind (Value f u) q ∙ ap (λ (b : Bool). pick b (listOutput f (drop u l)) (refusalLine InvalidState 0)) t
 
-    pub format-refused : (c : Cause) (p : ℕ) → o .verdict ≡ Faulty c p → n ≡ answerOf (refusalLine c p) d₀ → d ≡ roomOf (refusalLine c p) d₀ → Packs l d₀ d n
+    pub format-refused : (c : Cause) (p : ℕ) → o .verdict ≡ Faulty c p → n ≡ answerOf (refusalLine c p) d₀ → d ≡ roomOf (refusalLine c p) d₀
+        → Packs l d₀ d n
     format-refused c p e en ed = line-packs l d₀ d n c p big (no-format c p e) en ed
 
-    pub fresh-asks : o .verdict ≡ Sound → (o .writer ≡ writerWith (o .writer .format) []) × (o .writer .format < 2) × (mostOutput ≤ length d₀)
+    pub fresh-asks : o .verdict ≡ Sound
+        → (o .writer ≡ writerWith (o .writer .format) []) × (o .writer .format < 2) × (mostOutput ≤ length d₀)
     fresh-asks e =
         let s : o .writer .format ≡ f = ap (λ (w : Writer). w .format) format in
         (format ∙ ap (λ (x : ℕ). writerWith x []) (sym s), rw s (ltb-true f 2 (small e)), big)

@@ -52,7 +52,8 @@ module _ (m d₀ d : List ℕ) (i : ℕ) (room : 2 * length m < length d₀) (h 
   hexed-more l a b ea eb =
       let n = length-line m in
       let one = copied-more (messageLine m) d₀ d (2 * i) (h .copied) (omega arith) (omega arith) a (ea ∙ sym (high-digit m i l)) in
-      let two = copied-more (messageLine m) d₀ (set d (2 * i) a) (2 * i + 1) one (omega arith) (omega arith) b (eb ∙ sym (low-digit m i l)) in
+      let two = copied-more (messageLine m) d₀ (set d (2 * i) a) (2 * i + 1) one (omega arith) (omega arith) b (eb ∙ sym (low-digit m i l))
+      in
       let e : 2 * i + 1 + 1 ≡ 2 * (i + 1) = omega arith in
       record { within = omega arith; copied = subst (Copied (messageLine m) d₀ (set (set d (2 * i) a) (2 * i + 1) b)) e two }
 

@@ -51,9 +51,11 @@ lines-by l = lines-enough (length l) (suc (length l)) l (omega arith) (omega ari
     by Bad e = refl
     by (Whole start end) e =
         let n = length-drop end l in
-        ap (λ (x : List ℕ). messageLine (messageOf l start end) ++ x) (lines-enough (length l) (length (drop end l)) (drop end l) (omega arith) (omega arith))
+        ap (λ (x : List ℕ). messageLine (messageOf l start end) ++ x)
+        (lines-enough (length l) (length (drop end l)) (drop end l) (omega arith) (omega arith))
 
-pub lines-whole : (l : List ℕ) (start end : ℕ) → firstOf l ≡ Whole start end → linesOf l ≡ messageLine (messageOf l start end) ++ linesOf (drop end l)
+pub lines-whole : (l : List ℕ) (start end : ℕ) → firstOf l ≡ Whole start end
+    → linesOf l ≡ messageLine (messageOf l start end) ++ linesOf (drop end l)
 lines-whole l start end e = lines-by l ∙ ap (λ (f : First). lineThen f l linesOf) e
 
 pub lines-empty : (l : List ℕ) → firstOf l ≡ Empty → linesOf l ≡ []
@@ -79,7 +81,8 @@ lines-messages (m ∷ ms) a =
     ap (λ (k : ℕ). take k (drop (length n) l)) s
     ∙ ap (λ (x : List ℕ). take (length m) (drop (length n) x)) i
     ∙ ap (take (length m)) (drop-append-seam n (m ++ recordsOf ms)) ∙ take-at m (recordsOf ms) (length m) refl in
-    let rest : drop (length n + length m) l ≡ recordsOf ms = drop-at (recordOf m) (recordsOf ms) (length n + length m) (length-append n m) in
+    let rest : drop (length n + length m) l ≡ recordsOf ms = drop-at (recordOf m) (recordsOf ms) (length n + length m) (length-append n m)
+    in
     lines-whole l (length n) (length n + length m) (first-written m (recordsOf ms) (a .0))
     ∙ ap (λ (x : List ℕ). messageLine x ++ linesOf (drop (length n + length m) l)) here
     ∙ ap (λ (x : List ℕ). messageLine m ++ linesOf x) rest
@@ -108,7 +111,8 @@ pub record Lined (l d₀ d : List ℕ) (at to : ℕ) : Type 0 where
   pub rest : linesOf l ≡ text ++ linesOf (drop at l)
 
 pub lined-none : (l d : List ℕ) → Lined l d d 0 0
-lined-none l d = record { text = []; within = omega arith; few = omega arith; reached = refl; room = sym (put-none 0 d); long = refl; rest = refl }
+lined-none l d =
+    record { text = []; within = omega arith; few = omega arith; reached = refl; room = sym (put-none 0 d); long = refl; rest = refl }
 
 -- a record that stands behind `at`, and what the room has behind `to`
 pub record Turn (l d : List ℕ) (at to start end : ℕ) : Type 0 where
@@ -151,7 +155,9 @@ module _ (l d₀ d : List ℕ) (at to : ℕ) (big : length l ≤ length d₀ / 2
     size = let w = here in let n = length-drop at l in length-part start (end - start) (drop at l) (omega arith)
 
     pub turn : Turn l d at to start end
-    turn = let w = here in let f = h .few in let g = h .long in record { inside = omega arith; within = omega arith; onward = omega arith; room = omega arith }
+    turn =
+        let w = here in let f = h .few in let g = h .long in record
+        { inside = omega arith; within = omega arith; onward = omega arith; room = omega arith }
 
     -- the line behind the others
     pub lined-more : (d′ : List ℕ) (r : ℕ) → r ≡ length (messageLine (take ((at + end) - (at + start)) (drop (at + start) l)))
@@ -182,7 +188,8 @@ module _ (l d₀ d : List ℕ) (at to : ℕ) (big : length l ≤ length d₀ / 2
           room = over;
           long = ap length over ∙ length-put 0 (h .text ++ line) d₀ (omega arith);
           rest =
-              h .rest ∙ ap (λ (x : List ℕ). h .text ++ x) (lines-whole (drop at l) start end e ∙ ap (λ (x : List ℕ). line ++ linesOf x) (drop-drop end at l))
+              h .rest ∙ ap (λ (x : List ℕ). h .text ++ x)
+              (lines-whole (drop at l) start end e ∙ ap (λ (x : List ℕ). line ++ linesOf x) (drop-drop end at l))
               ∙ sym (append-assoc (h .text) line (linesOf (drop (at + end) l)));
         }
 
@@ -204,4 +211,11 @@ lines-most (m ∷ ms) a =
     let sized = h .sized in
     let one = ap length (number-small (length m) (omega (arith, size-most m))) in
     let rest = lines-most ms (a .1) in
-    omega (arith, length-line m, length-append (messageLine m) (messageLines ms), length-append (recordOf m) (recordsOf ms), length-append (number (length m)) m)
+    omega (
+      arith,
+      length-line m,
+      length-append (messageLine m) (messageLines ms),
+      length-append (recordOf m) (recordsOf ms),
+      length-append
+          (number (length m)) m,
+    )

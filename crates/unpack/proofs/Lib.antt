@@ -1,2 +1,4 @@
 pub mod RefillLaws
 pub mod TurnLaws
+pub mod TurnTheorem
+pub mod LoopLaws

@@ -21,7 +21,7 @@ use Rattle.unpacker.specs.declared.unpack.Outcome.{Outcome}
 use Rattle.unpacker.specs.declared.unpack.Outcome.the-variants as outcome
 use Rattle.unpacker.proofs.CutTheorem.{callsLeft, Steps, stops, goes, waits, turn-steps, turn-within}
 use Rattle.unpacker.proofs.RoomLaws.{turn-fits}
-use Rattle.unpack.specs.Turns.{AtHand, Filled, got, end, failed, Follows, Taken}
+use Rattle.unpack.specs.Turns.{held, AtHand, Filled, got, end, failed, Follows, Taken}
 use Rattle.unpack.specs.declared.Progress.{Progress}
 use Rattle.unpack.specs.declared.Progress.the-variants.{On, Over, Failed}
 use Rattle.unpack.specs.declared.Window.{Window}
@@ -38,54 +38,70 @@ part-left buf at have u inside within few =
     ∙ drop-at (take u x) (take (have - (at + u)) (drop u x)) u front
     ∙ ap (take (have - (at + u))) (drop-drop u at buf))
 
-module _ (s : Unpacker) (buf : List ℕ) (at have : ℕ) (ended : Bool) (inside : at ≤ have) (within : have ≤ length buf) where
+-- a call on what a window holds
+module _ (s : Unpacker) (w : Window) (buf room : List ℕ) (ok : (w .at ≤ w .have) × (w .have ≤ length buf) × (leastRoom ≤ length room))
+    (r : Unpacked) (er : r ≡ consuming s (held w buf) (w .ended) (length room)) where
   abbrev b : List ℕ
-  b = part at (have - at) buf
+  b = held w buf
 
   abbrev call : Call
-  call = turn s b ended
+  call = turn s b (w .ended)
 
-  module _ (room : List ℕ) (big : leastRoom ≤ length room) (r : Unpacked) (er : r ≡ consuming s b ended (length room)) where
-    made : r ≡ answered call
-    made = er ∙ ap (λ (t : Bool). pick t (noRoom s) (answered call)) (le-ltb (length room) leastRoom big)
+  large : ltb (length room) leastRoom ≡ false
+  large = le-ltb (length room) leastRoom (ok .2)
 
-    used-few : r .used ≤ have - at
-    used-few =
-        let e : r .used ≡ call .used = ap (λ (x : Unpacked). x .used) made in
-        let n : length b ≡ have - at = length-part at (have - at) buf (omega arith) in
-        omega (arith, turn-within s b ended)
+  made : r ≡ answered call
+  made = er ∙ ap (λ (t : Bool). pick t (noRoom s) (answered call)) large
 
-    pub used-inside : (at + r .used ≤ have) × (have ≤ length buf)
-    used-inside = (omega (arith, used-few), within)
+  used-few : r .used ≤ w .have - w .at
+  used-few =
+      let e : r .used ≡ call .used = ap (λ (x : Unpacked). x .used) made in
+      let n : length b ≡ w .have - w .at = length-part (w .at) (w .have - w .at) buf (omega arith) in
+      omega (arith, turn-within s b (w .ended))
 
-    left : part (at + r .used) (have - (at + r .used)) buf ≡ leftBy call b
-    left = part-left buf at have (r .used) inside within used-few ∙ ap (λ (x : Unpacked). drop (x .used) b) made
+  pub used-inside : (w .at + r .used ≤ w .have) × (w .have ≤ length buf)
+  used-inside = (omega (arith, used-few), ok .1)
 
-    told : (o : Outcome) → r .outcome ≡ o → call .outcome ≡ o
-    told o e = sym (ap (λ (x : Unpacked). x .outcome) made) ∙ e
+  left : part (w .at + r .used) (w .have - (w .at + r .used)) buf ≡ leftBy call b
+  left = part-left buf (w .at) (w .have) (r .used) (ok .0) (ok .1) used-few ∙ ap (λ (x : Unpacked). drop (x .used) b) made
 
-    -- the room behind the call
-    pub printed : (d : List ℕ) → d ≡ consumedRoom s b ended room → d ≡ put 0 (call .text) room
-    printed d e = e ∙ ap (λ (t : Bool). pick t room (put 0 (call .text) room)) (le-ltb (length room) leastRoom big)
+  told : (o : Outcome) → r .outcome ≡ o → call .outcome ≡ o
+  told o e = sym (ap (λ (x : Unpacked). x .outcome) made) ∙ e
 
-    module _ (after : List ℕ) (w : Window) where
-      taken : Follows (leftBy call b) ended after w (call .outcome) → Taken s b ended after (record { unpacker = r .unpacker; written = r .written; window = w })
-      taken f = record { next = ap (λ (x : Unpacked). x .unpacker) made; written = ap (λ (x : Unpacked). x .written) made; window = f }
+  -- the room behind the call
+  printed : (d : List ℕ) → d ≡ consumedRoom s b (w .ended) room → d ≡ put 0 (call .text) room
+  printed d e = e ∙ ap (λ (t : Bool). pick t room (put 0 (call .text) room)) large
 
-      pub taken-over : (v : Verdict) → r .outcome ≡ outcome.Over v → w ≡ record { at = at + r .used; have = have; ended = ended; progress = Over }
-          → Taken s b ended after (record { unpacker = r .unpacker; written = r .written; window = w })
-      taken-over v e ew = taken (subst (Follows (leftBy call b) ended after w) (sym (told (outcome.Over v) e)) (ap (λ (x : Window). x .progress) ew))
+  -- the turn that a window behind the call makes, and the room
+  module _ (d : List ℕ) (ed : d ≡ consumedRoom s b (w .ended) room) (after : List ℕ) (w′ : Window) where
+    abbrev Turned : Type 0
+    Turned =
+        Taken s b (w .ended) after (record { unpacker = r .unpacker; written = r .written; window = w′ }) × (d ≡ put 0 (call .text) room)
 
-      pub taken-more : r .outcome ≡ outcome.More → Filled (part (at + r .used) (have - (at + r .used)) buf) after w
-          → Taken s b ended after (record { unpacker = r .unpacker; written = r .written; window = w })
-      taken-more e f = taken (subst (Follows (leftBy call b) ended after w) (sym (told outcome.More e)) (subst (λ (x : List ℕ). Filled x after w) left f))
+    turned : (o : Outcome) → r .outcome ≡ o → Follows (leftBy call b) (w .ended) after w′ o → Turned
+    turned o e f = (
+      record {
+        next = ap (λ (x : Unpacked). x .unpacker) made;
+        written = ap (λ (x : Unpacked). x .written) made;
+        window = subst (Follows (leftBy call b) (w .ended) after w′) (sym (told o e)) f;
+      },
+      printed d ed,
+    )
 
-    pub taken-next : (w : Window) → r .outcome ≡ outcome.Next → w ≡ record { at = at + r .used; have = have; ended = ended; progress = On }
-        → Taken s b ended buf (record { unpacker = r .unpacker; written = r .written; window = w })
-    taken-next w e ew =
-        taken buf w (subst (Follows (leftBy call b) ended buf w) (sym (told outcome.Next e))
-        (subst (λ (x : Window). Follows (leftBy call b) ended buf x outcome.Next) (sym ew)
-        (record { inside = used-inside .0; within = within; bytes = left }, refl, refl)))
+    pub taken-over : (v : Verdict) → r .outcome ≡ outcome.Over v
+        → w′ ≡ record { at = w .at + r .used; have = w .have; ended = w .ended; progress = Over } → Turned
+    taken-over v e ew = turned (outcome.Over v) e (ap (λ (x : Window). x .progress) ew)
+
+    pub taken-more : r .outcome ≡ outcome.More → Filled (part (w .at + r .used) (w .have - (w .at + r .used)) buf) after w′ → Turned
+    taken-more e f = turned outcome.More e (subst (λ (x : List ℕ). Filled x after w′) left f)
+
+    pub taken-next : after ≡ buf → r .outcome ≡ outcome.Next
+        → w′ ≡ record { at = w .at + r .used; have = w .have; ended = w .ended; progress = On } → Turned
+    taken-next eb e ew =
+        turned outcome.Next e
+        (subst (λ (x : List ℕ). Follows (leftBy call b) (w .ended) x w′ outcome.Next) (sym eb)
+        (subst (λ (x : Window). Follows (leftBy call b) (w .ended) buf x outcome.Next) (sym ew)
+        (record { inside = used-inside .0; within = ok .1; bytes = left }, refl, refl)))
 
 -- ---- turns come to an end
 
@@ -119,17 +135,20 @@ flag-most : (e : Bool) → flag e ≤ 1
 flag-most true = omega arith
 flag-most false = omega arith
 
-module _ (s : Unpacker) (w : Window) (buf after : List ℕ) (r : Turn) (inside : w .at ≤ w .have) (within : w .have ≤ length buf) (size : length after ≡ 65536)
-    (same : length buf ≡ 65536) (h : Taken s (part (w .at) (w .have - w .at) buf) (w .ended) after r) (on : r .window .progress ≡ On) where
+module _ (s : Unpacker) (w : Window) (buf after : List ℕ) (r : Turn) (inside : w .at ≤ w .have) (within : w .have ≤ length buf)
+    (size : length after ≡ 65536) (h : Taken s (held w buf) (w .ended) after r) (on : r .window .progress ≡ On) where
   abbrev x : List ℕ
-  x = part (w .at) (w .have - w .at) buf
+  x = held w buf
+
+  abbrev t : Call
+  t = turn s x (w .ended)
 
   long : length x ≡ w .have - w .at
   long = length-part (w .at) (w .have - w .at) buf (omega arith)
 
-  by-filled : Filled (leftBy (turn s x (w .ended)) x) after (r .window) → turn s x (w .ended) .next ≡ s → turn s x (w .ended) .used ≡ 0 → w .ended ≡ false → Nearer s w after r
+  by-filled : Filled (leftBy t x) after (r .window) → t .next ≡ s → t .used ≡ 0 → w .ended ≡ false → Nearer s w after r
   by-filled (got p some hand e q) stays none going =
-      let n = at-hand (r .window) after (leftBy (turn s x (w .ended)) x ++ p) hand in
+      let n = at-hand (r .window) after (leftBy t x ++ p) hand in
       let here : callsLeft (r .unpacker) ≡ callsLeft s = ap callsLeft (h .next ∙ stays) in
       let e1 : flag (r .window .ended) ≡ 1 = ap flag e in
       let e2 : flag (w .ended) ≡ 1 = ap flag going in
@@ -137,25 +156,25 @@ module _ (s : Unpacker) (w : Window) (buf after : List ℕ) (r : Turn) (inside :
       record {
         inside = hand .inside;
         within = c;
-        less = omega (arith, length-append (leftBy (turn s x (w .ended)) x) p, length-drop (turn s x (w .ended) .used) x, long);
+        less = omega (arith, length-append (leftBy t x) p, length-drop (t .used) x, long);
       }
   by-filled (end hand e q) stays none going =
-      let n = at-hand (r .window) after (leftBy (turn s x (w .ended)) x) hand in
+      let n = at-hand (r .window) after (leftBy t x) hand in
       let here : callsLeft (r .unpacker) ≡ callsLeft s = ap callsLeft (h .next ∙ stays) in
       let e1 : flag (r .window .ended) ≡ 0 = ap flag e in
       let e2 : flag (w .ended) ≡ 1 = ap flag going in
-      record { inside = hand .inside; within = hand .within; less = omega (arith, length-drop (turn s x (w .ended) .used) x, long) }
+      record { inside = hand .inside; within = hand .within; less = omega (arith, length-drop (t .used) x, long) }
   by-filled (failed q) stays none going = absurd (failed-on (sym q ∙ on))
 
-  by-steps : Steps s x (w .ended) (turn s x (w .ended)) → Nearer s w after r
-  by-steps (stops v e none) = absurd (over-on (sym (subst (Follows (leftBy (turn s x (w .ended)) x) (w .ended) after (r .window)) e (h .window)) ∙ on))
+  by-steps : Steps s x (w .ended) t → Nearer s w after r
+  by-steps (stops v e none) = absurd (over-on (sym (subst (Follows (leftBy t x) (w .ended) after (r .window)) e (h .window)) ∙ on))
   by-steps (goes e some few fewer) =
-      let f = subst (Follows (leftBy (turn s x (w .ended)) x) (w .ended) after (r .window)) e (h .window) in
+      let f = subst (Follows (leftBy t x) (w .ended) after (r .window)) e (h .window) in
       let hand = f .0 in
-      let here : callsLeft (r .unpacker) ≡ callsLeft (turn s x (w .ended) .next) = ap callsLeft (h .next) in
+      let here : callsLeft (r .unpacker) ≡ callsLeft (t .next) = ap callsLeft (h .next) in
       record { inside = hand .inside; within = hand .within; less = omega (arith, flag-most (r .window .ended)) }
   by-steps (waits e stays none going) =
-      by-filled (subst (Follows (leftBy (turn s x (w .ended)) x) (w .ended) after (r .window)) e (h .window)) stays none going
+      by-filled (subst (Follows (leftBy t x) (w .ended) after (r .window)) e (h .window)) stays none going
 
   pub nearer : Nearer s w after r
   nearer = by-steps (turn-steps s x (w .ended))

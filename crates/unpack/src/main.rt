@@ -3,9 +3,9 @@
 ghost use mathlib.Core.Path.{_≡_};
 ghost use Prim.Native.Nat.{_-_, _≤_};
 ghost use lib.ListN.{length};
-ghost use Rattle.lists.specs.Parts.{part, put};
-ghost use Rattle.unpacker.specs.Stepping.{leastRoom, turn};
-ghost use Rattle.unpack.specs.Turns.{Filled, Taken};
+ghost use Rattle.lists.specs.Parts.{part};
+ghost use Rattle.unpacker.specs.Stepping.{leastRoom};
+ghost use Rattle.unpack.specs.Turns.{held, Filled, Taken, printed, Ended};
 use input::Refill;
 use input::read_more;
 use libc::STDOUT_FILENO;
@@ -13,11 +13,12 @@ use unpacker::LEAST_ROOM;
 use unpacker::Outcome;
 use unpacker::Unpacker;
 
-// What a turn comes to: the next one can go on, the verdict is written, or the input could not be read.
+// What a turn comes to: the next one can go on, the verdict is there, the input could not be read, or the text could not be written.
 pub enum Progress {
     On,
     Over,
     Failed,
+    Unsent,
 }
 
 // The bytes at hand, from `at` up to `have` in the buffer, whether the input has ended, and what the turn comes to.
@@ -65,8 +66,8 @@ fn refill(buf: &mut [u8], at: usize, have: usize) -> Window
 // One turn: a call on the bytes at hand, and a refill where it asks for more.
 fn take_turn(unpacker: Unpacker, window: Window, buf: &mut [u8], room: &mut [u8]) -> Turn
     requires { ⌜ (window .at ≤ window .have) × (window .have ≤ length (now buf)) × (leastRoom ≤ length (now room)) ⌝ }
-    ensures turn { λ r. ⌜ Taken unpacker (part (window .at) (window .have - window .at) (now (buf .entry))) (window .ended) (now (buf .exit)) r ⌝ }
-    ensures room { λ _. ⌜ now (room .exit) ≡ put 0 (turn unpacker (part (window .at) (window .have - window .at) (now (buf .entry))) (window .ended) .text) (now (room .entry)) ⌝ }
+    ensures turn { λ r. ⌜ Taken unpacker (held window (now (buf .entry))) (window .ended) (now (buf .exit)) r ⌝ }
+    ensures room { λ _. ⌜ now (room .exit) ≡ printed unpacker (held window (now (buf .entry))) (window .ended) (now (room .entry)) ⌝ }
 {
     let at = window.at;
     let have = window.have;
@@ -94,9 +95,10 @@ fn take_turn(unpacker: Unpacker, window: Window, buf: &mut [u8], room: &mut [u8]
     }
 }
 
-// Takes turns until the verdict is written.
-fn unpack_input(buf: &mut [u8], room: &mut [u8])
+// Takes turns and prints the text of each, until the verdict is there or a read or a write fails.
+fn unpack_input(buf: &mut [u8], room: &mut [u8]) -> Progress
     requires { ⌜ (length (now buf) ≡ 65536) × (leastRoom ≤ length (now room)) ⌝ }
+    ensures { λ r. ⌜ Ended r ⌝ }
 {
     let mut unpacker = Unpacker::fresh();
     let mut window = frame(0, 0, false, Progress::On);
@@ -104,19 +106,16 @@ fn unpack_input(buf: &mut [u8], room: &mut [u8])
         let turn = take_turn(unpacker, window, buf, room);
         let written = turn.written;
         if !io::write_all(STDOUT_FILENO, &room[0..written]) {
-            os::fail(b"unpack: standard output");
-            return;
+            return Progress::Unsent;
         }
         unpacker = turn.unpacker;
         window = turn.window;
         let progress = window.progress;
         match progress {
             Progress::On => {}
-            Progress::Over => return,
-            Progress::Failed => {
-                os::fail(b"unpack: standard input");
-                return;
-            }
+            Progress::Over => return Progress::Over,
+            Progress::Failed => return Progress::Failed,
+            Progress::Unsent => return Progress::Unsent,
         }
     }
 }
@@ -124,5 +123,11 @@ fn unpack_input(buf: &mut [u8], room: &mut [u8])
 fn main() {
     let mut buf = io::large_buffer();
     let mut room = [0u8; LEAST_ROOM];
-    unpack_input(&mut buf, &mut room);
+    let progress = unpack_input(&mut buf, &mut room);
+    match progress {
+        Progress::On => {}
+        Progress::Over => {}
+        Progress::Failed => os::fail(b"unpack: standard input"),
+        Progress::Unsent => os::fail(b"unpack: standard output"),
+    }
 }

@@ -30,13 +30,15 @@ use Rattle.reader.specs.declared.reader.Answer.the-variants.{Done, Refused}
 use Rattle.text.specs.Lines.{verdictLine}
 use Rattle.text.specs.Hex.{linesOf}
 use Rattle.unpacker.specs.Unpacking.{most, linesThen, containersText, textBehind, unpackText}
-use Rattle.unpacker.specs.Stepping.{mostNumber, Turn, waiting, over, started, beginBy, beginning, stepped, turnBy, containerTurn, running, Running, validState, turn, freshUnpacker, textFrom}
+use Rattle.unpacker.specs.Stepping.{mostNumber, Turn, waiting, over, started, beginBy, beginning, stepped}
+use Rattle.unpacker.specs.Stepping.{turnBy, containerTurn, running, Running, validState, turn, freshUnpacker, textFrom}
 use Rattle.unpacker.specs.Cutting.{behind, leftBy}
 use Rattle.unpacker.specs.declared.unpack.Outcome.{Outcome}
 use Rattle.unpacker.specs.declared.unpack.Outcome.the-variants.{More, Next, Over}
 use Rattle.unpacker.specs.declared.unpack.Unpacker.{Unpacker}
 use Rattle.unpacker.proofs.ReadingLaws.{done-valid}
-use Rattle.unpacker.proofs.StateLaws.{new-none, turn-bad, turn-new, turn-running, text-bad, text-new, text-running, State, bad, new, runs, state-of}
+use Rattle.unpacker.proofs.StateLaws.{new-none, turn-bad, turn-new, turn-running, text-bad, text-new}
+use Rattle.unpacker.proofs.StateLaws.{text-running, State, bad, new, runs, state-of}
 
 -- ---- the containers, one by one
 
@@ -56,7 +58,8 @@ module _ (s : Reader) (e o : ℕ) (l : List ℕ) where
     containers-short k h = rw (ne-eqb (length l) 0 some, lt-ltb (length l) 256 h)
 
     containers-next : (k : ℕ) → 256 ≤ length l
-        → containersText (suc k) s e o l ≡ linesThen e (reading s (take 256 l) 352 .answer) (linesOf (records s (take 256 l))) (containersText k (reading s (take 256 l) 352 .reader) (e + 1) (o + 256) (drop 256 l))
+        → containersText (suc k) s e o l ≡ linesThen e (reading s (take 256 l) 352 .answer) (linesOf (records s (take 256 l)))
+        (containersText k (reading s (take 256 l) 352 .reader) (e + 1) (o + 256) (drop 256 l))
     unfolding containersText
     containers-next k h = rw (ne-eqb (length l) 0 some, le-ltb (length l) 256 h)
 
@@ -81,7 +84,8 @@ started-runs : (f u : ℕ) (b : List ℕ) → readNumber b ≡ Value f u → f <
 started-runs f u b e small =
     let one : u ≡ 1 = read-small b f u e (omega arith) in record { few = omega arith; reached = one; kept = rw (lt-ltb f 2 small) }
 
-begin-by : (s : Unpacker) (b m : List ℕ) → s .entries ≡ 0 → (r : Number) → readNumber b ≡ r → textBehind (b ++ m) r ≡ onward (beginBy s r) b m
+begin-by : (s : Unpacker) (b m : List ℕ) → s .entries ≡ 0 → (r : Number) → readNumber b ≡ r
+    → textBehind (b ++ m) r ≡ onward (beginBy s r) b m
 begin-by s b m z Broken e = line-alone s (Faulty BrokenRecord 0) b m _ (ap (λ (k : ℕ). verdictLine k (Faulty BrokenRecord 0)) (sym z))
 begin-by s b m z (Value f u) e = ⊎-elim good other (cases (ltb f 2))
   where
@@ -95,16 +99,19 @@ begin-by s b m z (Value f u) e = ⊎-elim good other (cases (ltb f 2))
     other t = rw t (line-alone s (Faulty InvalidState 0) b m _ (ap (λ (k : ℕ). verdictLine k (Faulty InvalidState 0)) (sym z)))
 
 -- nothing that follows changes the number
-number-same : (b m : List ℕ) (ended : Bool) → Ends ended m → pick ended true (leb mostNumber (length b)) ≡ true → readNumber (b ++ m) ≡ readNumber b
+number-same : (b m : List ℕ) (ended : Bool) → Ends ended m → pick ended true (leb mostNumber (length b)) ≡ true
+    → readNumber (b ++ m) ≡ readNumber b
 number-same b m true ends t = ap (λ (x : List ℕ). readNumber (b ++ x)) (ends refl) ∙ ap readNumber (append-nil b)
 number-same b m false ends t = number-append b m (leb-true mostNumber (length b) t)
 
-new-call : (s : Unpacker) (b m : List ℕ) (ended : Bool) → Ends ended m → validState s ≡ true → s .offset ≡ 0 → textFrom s (b ++ m) ≡ onward (beginning s b ended) b m
+new-call : (s : Unpacker) (b m : List ℕ) (ended : Bool) → Ends ended m → validState s ≡ true → s .offset ≡ 0
+    → textFrom s (b ++ m) ≡ onward (beginning s b ended) b m
 new-call s b m ended ends good z = ⊎-elim there short (cases (pick ended true (leb mostNumber (length b))))
   where
     there : pick ended true (leb mostNumber (length b)) ≡ true → textFrom s (b ++ m) ≡ onward (beginning s b ended) b m
     there t =
-        text-new s (b ++ m) good z ∙ ap (textBehind (b ++ m)) (number-same b m ended ends t) ∙ begin-by s b m (new-none s good z) (readNumber b) refl
+        text-new s (b ++ m) good z ∙ ap (textBehind (b ++ m)) (number-same b m ended ends t) ∙ begin-by s b m (new-none s good z)
+        (readNumber b) refl
         ∙ ap (λ (x : Bool). onward (pick x (beginBy s (readNumber b)) (waiting s)) b m) (sym t)
 
     short : pick ended true (leb mostNumber (length b)) ≡ false → textFrom s (b ++ m) ≡ onward (beginning s b ended) b m
@@ -113,7 +120,8 @@ new-call s b m ended ends good z = ⊎-elim there short (cases (pick ended true 
 -- ---- behind the format
 
 -- the state behind an accepted container is valid
-stepped-runs : (s : Unpacker) (c : List ℕ) (n : ℕ) (g : Grant) → Running s → s .entries < most → reading (s .reader) c 352 .answer ≡ Done n g
+stepped-runs : (s : Unpacker) (c : List ℕ) (n : ℕ) (g : Grant) → Running s → s .entries < most
+    → reading (s .reader) c 352 .answer ≡ Done n g
     → Running (stepped s (reading (s .reader) c 352 .reader))
 stepped-runs s c n g r few e = record { few = omega arith; reached = omega (arith, r .reached); kept = done-valid (s .reader) c n g e }
 
@@ -128,7 +136,8 @@ module _ (s : Unpacker) (b m : List ℕ) (r : Running s) where
   ended-none : m ≡ [] → length b ≡ 0 → textFrom s (b ++ m) ≡ onward (over s Sound) b m
   ended-none em z =
       line-alone s Sound b m _
-      (left (most - s .entries) refl ∙ containers-none (s .reader) (s .entries) (s .offset) (b ++ m) (most - s .entries) (omega (arith, length-append b m, ap length em)))
+      (left (most - s .entries) refl ∙ containers-none (s .reader) (s .entries) (s .offset) (b ++ m) (most - s .entries)
+      (omega (arith, length-append b m, ap length em)))
 
   too-many : most ≤ s .entries → (length b ≡ 0 → ⊥) → textFrom s (b ++ m) ≡ onward (over s (Faulty TooLong 0)) b m
   too-many h some =
@@ -145,7 +154,8 @@ module _ (s : Unpacker) (b m : List ℕ) (r : Running s) where
     ended-short : m ≡ [] → length b < 256 → textFrom s (b ++ m) ≡ onward (over s (Faulty BrokenRecord (s .offset))) b m
     ended-short em h =
         line-alone s (Faulty BrokenRecord (s .offset)) b m _
-        (left (suc k) one-more ∙ containers-short (s .reader) (s .entries) (s .offset) (b ++ m) (some-left some) k (omega (arith, length-append b m, ap length em)))
+        (left (suc k) one-more ∙ containers-short (s .reader) (s .entries) (s .offset) (b ++ m) (some-left some) k
+        (omega (arith, length-append b m, ap length em)))
 
     -- a whole container
     module _ (long : 256 ≤ length b) where
@@ -153,10 +163,12 @@ module _ (s : Unpacker) (b m : List ℕ) (r : Running s) where
       c = take 256 b
 
       read-by : (a : Answer) → reading (s .reader) c 352 .answer ≡ a
-          → linesThen (s .entries) a (linesOf (records (s .reader) c)) (containersText k (reading (s .reader) c 352 .reader) (s .entries + 1) (s .offset + 256) (drop 256 b ++ m))
+          → linesThen (s .entries) a (linesOf (records (s .reader) c))
+          (containersText k (reading (s .reader) c 352 .reader) (s .entries + 1) (s .offset + 256) (drop 256 b ++ m))
           ≡ onward (turnBy s (reading (s .reader) c 352 .reader) (linesOf (records (s .reader) c)) a) b m
       read-by (Done n g) e =
-          ap (λ (x : List ℕ). linesOf (records (s .reader) c) ++ x) (sym (text-running (stepped s (reading (s .reader) c 352 .reader)) (drop 256 b ++ m) (stepped-runs s c n g r few e)))
+          ap (λ (x : List ℕ). linesOf (records (s .reader) c) ++ x)
+          (sym (text-running (stepped s (reading (s .reader) c 352 .reader)) (drop 256 b ++ m) (stepped-runs s c n g r few e)))
       read-by (Refused q p) e = line-alone s (Faulty q p) b m _ refl
 
       whole : textFrom s (b ++ m) ≡ onward (containerTurn s c) b m
@@ -165,24 +177,32 @@ module _ (s : Unpacker) (b m : List ℕ) (r : Running s) where
           let rest : drop 256 (b ++ m) ≡ drop 256 b ++ m = drop-append-le 256 b m long in
           left (suc k) one-more
           ∙ containers-next (s .reader) (s .entries) (s .offset) (b ++ m) (some-left some) k (omega (arith, length-append b m))
-          ∙ ap (λ (x : List ℕ). linesThen (s .entries) (reading (s .reader) x 352 .answer) (linesOf (records (s .reader) x)) (containersText k (reading (s .reader) x 352 .reader) (s .entries + 1) (s .offset + 256) (drop 256 (b ++ m)))) front
-          ∙ ap (λ (x : List ℕ). linesThen (s .entries) (reading (s .reader) c 352 .answer) (linesOf (records (s .reader) c)) (containersText k (reading (s .reader) c 352 .reader) (s .entries + 1) (s .offset + 256) x)) rest
+          ∙ ap (λ (x : List ℕ). linesThen (s .entries) (reading (s .reader) x 352 .answer) (linesOf (records (s .reader) x))
+          (containersText k (reading (s .reader) x 352 .reader) (s .entries + 1) (s .offset + 256) (drop 256 (b ++ m)))) front
+          ∙ ap (λ (x : List ℕ). linesThen (s .entries) (reading (s .reader) c 352 .answer) (linesOf (records (s .reader) c))
+          (containersText k (reading (s .reader) c 352 .reader) (s .entries + 1) (s .offset + 256) x)) rest
           ∙ read-by (reading (s .reader) c 352 .answer) refl
 
   -- by the tests of a call
   by-length : (ended : Bool) → Ends ended m → s .entries < most → (length b ≡ 0 → ⊥) → (t : Bool) → ltb (length b) 256 ≡ t
-      → textFrom s (b ++ m) ≡ onward (pick t (pick ended (over s (Faulty BrokenRecord (s .offset))) (waiting s)) (containerTurn s (take 256 b))) b m
+      → textFrom s (b ++ m) ≡ onward
+      (pick t (pick ended (over s (Faulty BrokenRecord (s .offset))) (waiting s)) (containerTurn s (take 256 b))) b m
   by-length true ends few some true e = ended-short few some (ends refl) (ltb-true (length b) 256 e)
   by-length false ends few some true e = refl
   by-length ended ends few some false e = whole few some (ltb-false (length b) 256 e)
 
   by-count : (ended : Bool) → Ends ended m → (length b ≡ 0 → ⊥) → (t : Bool) → leb most (s .entries) ≡ t
-      → textFrom s (b ++ m) ≡ onward (pick t (over s (Faulty TooLong 0)) (pick (ltb (length b) 256) (pick ended (over s (Faulty BrokenRecord (s .offset))) (waiting s)) (containerTurn s (take 256 b)))) b m
+      → textFrom s (b ++ m) ≡ onward
+      (pick t (over s (Faulty TooLong 0))
+      (pick (ltb (length b) 256) (pick ended (over s (Faulty BrokenRecord (s .offset))) (waiting s)) (containerTurn s (take 256 b)))) b m
   by-count ended ends some true e = too-many (leb-true most (s .entries) e) some
   by-count ended ends some false e = by-length ended ends (leb-false most (s .entries) e) some (ltb (length b) 256) refl
 
   running-call : (ended : Bool) → Ends ended m → (t : Bool) → eqb (length b) 0 ≡ t
-      → textFrom s (b ++ m) ≡ onward (pick t (pick ended (over s Sound) (waiting s)) (pick (leb most (s .entries)) (over s (Faulty TooLong 0)) (pick (ltb (length b) 256) (pick ended (over s (Faulty BrokenRecord (s .offset))) (waiting s)) (containerTurn s (take 256 b))))) b m
+      → textFrom s (b ++ m) ≡ onward
+      (pick t (pick ended (over s Sound) (waiting s))
+      (pick (leb most (s .entries)) (over s (Faulty TooLong 0))
+      (pick (ltb (length b) 256) (pick ended (over s (Faulty BrokenRecord (s .offset))) (waiting s)) (containerTurn s (take 256 b))))) b m
   running-call true ends true e = ended-none (ends refl) (eqb-true (length b) 0 e)
   running-call false ends true e = refl
   running-call ended ends false e = by-count ended ends (eqb-false (length b) 0 e) (leb most (s .entries)) refl
@@ -191,7 +211,8 @@ call-by : (s : Unpacker) (b m : List ℕ) (ended : Bool) → Ends ended m → St
 call-by s b m ended ends (bad e) =
     line-alone s (Faulty InvalidState 0) b m _ (text-bad s (b ++ m) e) ∙ ap (λ (t : Turn). onward t b m) (sym (turn-bad s b ended e))
 call-by s b m ended ends (new good z) = new-call s b m ended ends good z ∙ ap (λ (t : Turn). onward t b m) (sym (turn-new s b ended good z))
-call-by s b m ended ends (runs r) = running-call s b m r ended ends (eqb (length b) 0) refl ∙ ap (λ (t : Turn). onward t b m) (sym (turn-running s b ended r))
+call-by s b m ended ends (runs r) =
+    running-call s b m r ended ends (eqb (length b) 0) refl ∙ ap (λ (t : Turn). onward t b m) (sym (turn-running s b ended r))
 
 -- a call changes nothing of the text for the whole
 pub one-call : (s : Unpacker) (b m : List ℕ) (ended : Bool) → Ends ended m → textFrom s (b ++ m) ≡ onward (turn s b ended) b m

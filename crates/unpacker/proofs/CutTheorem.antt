@@ -24,7 +24,8 @@ use Rattle.reader.specs.declared.reader.Reader.{Reader}
 use Rattle.reader.specs.declared.reader.Answer.{Answer}
 use Rattle.reader.specs.declared.reader.Answer.the-variants.{Done, Refused}
 use Rattle.unpacker.specs.Unpacking.{most, unpackText}
-use Rattle.unpacker.specs.Stepping.{mostNumber, Turn, waiting, over, beginBy, turnBy, containerTurn, running, Running, validState, turn, freshUnpacker, textFrom}
+use Rattle.unpacker.specs.Stepping.{mostNumber, Turn, waiting, over, beginBy, turnBy, containerTurn}
+use Rattle.unpacker.specs.Stepping.{running, Running, validState, turn, freshUnpacker, textFrom}
 use Rattle.unpacker.specs.Cutting.{behind, leftBy, run}
 use Rattle.unpacker.specs.declared.unpack.Outcome.{Outcome}
 use Rattle.unpacker.specs.declared.unpack.Outcome.the-variants.{More, Next, Over}
@@ -59,7 +60,8 @@ begin-steps s b ended z Broken e = stops (Faulty BrokenRecord 0) refl refl
 begin-steps s b ended z (Value f u) e =
     let takes : Takes (Value f u) 5 (length b) = subst (λ (r : Number). Takes r 5 (length b)) e (takes-number b) in
     let some = takes .0 in
-    let fewer : pick (eqb u 0) (most + 2) ((most + 1) - 0) < callsLeft s = rw (ne-eqb u 0 (λ (q : u ≡ 0). omega arith), left-new s z) (omega arith) in
+    let fewer : pick (eqb u 0) (most + 2) ((most + 1) - 0) < callsLeft s = rw (ne-eqb u 0 (λ (q : u ≡ 0). omega arith), left-new s z)
+    (omega arith) in
     ⊎-elim (λ (t : ltb f 2 ≡ true). rw t (goes refl some (takes .1 .1) fewer))
     (λ (t : ltb f 2 ≡ false). rw t (stops (Faulty InvalidState 0) refl refl)) (cases (ltb f 2))
 
@@ -86,7 +88,8 @@ steps-by : (s : Unpacker) (b : List ℕ) (ended : Bool) → State s → Steps s 
 steps-by s b ended (bad e) = subst (Steps s b ended) (sym (turn-bad s b ended e)) (stops (Faulty InvalidState 0) refl refl)
 steps-by s b ended (new good z) =
     subst (Steps s b ended) (sym (turn-new s b ended good z))
-    (pick-by (Steps s b ended) (pick ended true (leb mostNumber (length b))) (λ t. begin-steps s b ended z (readNumber b) refl) (λ t. waits refl refl refl (going ended t)))
+    (pick-by (Steps s b ended) (pick ended true (leb mostNumber (length b))) (λ t. begin-steps s b ended z (readNumber b) refl)
+    (λ t. waits refl refl refl (going ended t)))
   where
     going : (ended : Bool) → pick ended true (leb mostNumber (length b)) ≡ false → ended ≡ false
     going true t = t
@@ -125,24 +128,31 @@ run-text (suc k) s b [] h = by (turn-steps s b true) (λ n c q. run-text k n c [
         → t .text ++ behind (t .outcome) (run k (t .next) (leftBy t b) []) [] ≡ onward t b []
     by (stops v e none) ih = told t (Over v) _ _ e ∙ sym (told t (Over v) _ _ e)
     by (goes e some within fewer) ih =
-        told t Next _ _ e ∙ ap (λ (x : List ℕ). t .text ++ x) (ih (t .next) (leftBy t b) (omega (arith, length-drop (t .used) b))) ∙ sym (told t Next _ _ e)
+        told t Next _ _ e ∙ ap (λ (x : List ℕ). t .text ++ x) (ih (t .next) (leftBy t b) (omega (arith, length-drop (t .used) b))) ∙ sym
+        (told t Next _ _ e)
     by (waits e same none going) ih = absurd (never-both going refl)
 run-text (suc k) s b (p ∷ ps) h =
-    by (turn-steps s b false) (λ n c q. run-text k n c (p ∷ ps) q) (λ n c q. run-text k n c ps q) ∙ sym (one-call s b (p ++ joinAll ps) false (λ e. absurd (never-both refl e)))
+    by (turn-steps s b false) (λ n c q. run-text k n c (p ∷ ps) q) (λ n c q. run-text k n c ps q) ∙ sym
+    (one-call s b (p ++ joinAll ps) false (λ e. absurd (never-both refl e)))
   where
     t : Turn
     t = turn s b false
 
-    by : Steps s b false t → ((n : Unpacker) (c : List ℕ) → length c + length (p ++ joinAll ps) + suc (length ps) < k → run k n c (p ∷ ps) ≡ textFrom n (c ++ (p ++ joinAll ps)))
+    by : Steps s b false t
+        → ((n : Unpacker) (c : List ℕ) → length c + length (p ++ joinAll ps) + suc (length ps) < k
+        → run k n c (p ∷ ps) ≡ textFrom n (c ++ (p ++ joinAll ps)))
         → ((n : Unpacker) (c : List ℕ) → length c + length (joinAll ps) + length ps < k → run k n c ps ≡ textFrom n (c ++ joinAll ps))
-        → t .text ++ behind (t .outcome) (run k (t .next) (leftBy t b) (p ∷ ps)) (run k (t .next) (leftBy t b ++ p) ps) ≡ onward t b (p ++ joinAll ps)
+        → t .text ++ behind (t .outcome) (run k (t .next) (leftBy t b) (p ∷ ps)) (run k (t .next) (leftBy t b ++ p) ps) ≡ onward t b
+        (p ++ joinAll ps)
     by (stops v e none) again more = told t (Over v) _ _ e ∙ sym (told t (Over v) _ _ e)
     by (goes e some within fewer) again more =
-        told t Next _ _ e ∙ ap (λ (x : List ℕ). t .text ++ x) (again (t .next) (leftBy t b) (omega (arith, length-drop (t .used) b))) ∙ sym (told t Next _ _ e)
+        told t Next _ _ e ∙ ap (λ (x : List ℕ). t .text ++ x) (again (t .next) (leftBy t b) (omega (arith, length-drop (t .used) b))) ∙ sym
+        (told t Next _ _ e)
     by (waits e same none going) again more =
         told t More _ _ e
         ∙ ap (λ (x : List ℕ). t .text ++ x)
-        (more (t .next) (leftBy t b ++ p) (omega (arith, length-drop (t .used) b, length-append (leftBy t b) p, length-append p (joinAll ps)))
+        (more (t .next) (leftBy t b ++ p)
+        (omega (arith, length-drop (t .used) b, length-append (leftBy t b) p, length-append p (joinAll ps)))
         ∙ ap (textFrom (t .next)) (append-assoc (leftBy t b) p (joinAll ps)))
         ∙ sym (told t More _ _ e)
 

@@ -49,12 +49,14 @@ read-fits s c (Refused q p) e = over-fits s (Faulty q p)
 fits-by : (s : Unpacker) (b : List ℕ) (ended : Bool) → State s → Fits (turn s b ended)
 fits-by s b ended (bad e) = subst Fits (sym (turn-bad s b ended e)) (over-fits s (Faulty InvalidState 0))
 fits-by s b ended (new good z) =
-    subst Fits (sym (turn-new s b ended good z)) (pick-both Fits (pick ended true (leb mostNumber (length b))) (begin-fits s (readNumber b)) (omega arith))
+    subst Fits (sym (turn-new s b ended good z))
+    (pick-both Fits (pick ended true (leb mostNumber (length b))) (begin-fits s (readNumber b)) (omega arith))
 fits-by s b ended (runs r) =
     subst Fits (sym (turn-running s b ended r))
     (pick-both Fits (eqb (length b) 0) (ended-fits s ended Sound)
     (pick-both Fits (leb most (s .entries)) (over-fits s (Faulty TooLong 0))
-    (pick-both Fits (ltb (length b) 256) (ended-fits s ended (Faulty BrokenRecord (s .offset))) (read-fits s (take 256 b) (reading (s .reader) (take 256 b) 352 .answer) refl))))
+    (pick-both Fits (ltb (length b) 256) (ended-fits s ended (Faulty BrokenRecord (s .offset)))
+    (read-fits s (take 256 b) (reading (s .reader) (take 256 b) 352 .answer) refl))))
 
 pub turn-fits : (s : Unpacker) (b : List ℕ) (ended : Bool) → length (turn s b ended .text) ≤ leastRoom
 turn-fits s b ended = fits-by s b ended (state-of s)

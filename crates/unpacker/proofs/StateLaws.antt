@@ -53,7 +53,8 @@ module _ (s : Unpacker) where
         let r = and-right (leb (s .entries) most) far h in
         record {
           few = leb-true (s .entries) most (and-left (leb (s .entries) most) far h);
-          reached = eqb-true (s .offset) (256 * s .entries + 1) (and-left (eqb (s .offset) (256 * s .entries + 1)) (readerOk (s .reader)) r);
+          reached =
+              eqb-true (s .offset) (256 * s .entries + 1) (and-left (eqb (s .offset) (256 * s .entries + 1)) (readerOk (s .reader)) r);
           kept = and-right (eqb (s .offset) (256 * s .entries + 1)) (readerOk (s .reader)) r;
         }
 
@@ -64,7 +65,8 @@ module _ (s : Unpacker) where
   running-valid r =
       behind (running-some r)
       ∙ and-both (leb (s .entries) most) far (le-leb (s .entries) most (r .few))
-      (and-both (eqb (s .offset) (256 * s .entries + 1)) (readerOk (s .reader)) (eq-eqb (s .offset) (256 * s .entries + 1) (r .reached)) (r .kept))
+      (and-both (eqb (s .offset) (256 * s .entries + 1)) (readerOk (s .reader)) (eq-eqb (s .offset) (256 * s .entries + 1) (r .reached))
+      (r .kept))
 
   pub new-none : validState s ≡ true → s .offset ≡ 0 → s .entries ≡ 0
   new-none e z = eqb-true (s .entries) 0 (valid-new z ∙ e)

@@ -32,7 +32,8 @@ use Rattle.reader.specs.declared.reader.Answer.the-variants.{Done, Refused}
 use Rattle.text.specs.Lines.{verdictLine, answerOf, roomOf}
 use Rattle.text.specs.Hex.{linesOf, linesLength, linesRoom}
 use Rattle.unpacker.specs.Unpacking.{most}
-use Rattle.unpacker.specs.Stepping.{leastRoom, Turn, waiting, over, started, beginBy, beginning, stepped, turnBy, containerTurn, running, Running, validState, turn, answered, noRoom, consuming, consumedRoom}
+use Rattle.unpacker.specs.Stepping.{leastRoom, Turn, waiting, over, started, beginBy, beginning, stepped, turnBy}
+use Rattle.unpacker.specs.Stepping.{containerTurn, running, Running, validState, turn, answered, noRoom, consuming, consumedRoom}
 use Rattle.unpacker.specs.declared.unpack.Outcome.{Outcome}
 use Rattle.unpacker.specs.declared.unpack.Outcome.the-variants.{Next, Over}
 use Rattle.unpacker.specs.declared.unpack.Unpacker.{Unpacker}
@@ -56,8 +57,11 @@ pub concluded : (s : Unpacker) (v : Verdict) (d₀ d : List ℕ) (n : ℕ) → l
 concluded s v d₀ d n big en ed =
     let t : ltb (length d₀) 64 ≡ false = le-ltb (length d₀) 64 (omega arith) in
     let line = verdictLine (s .entries) v in
-    let size : n ≡ length line = en ∙ ap (λ (b : Bool). pick b 0 (length line)) t in
-    (ap (λ (k : ℕ). record { unpacker = s; used = 0; written = k; outcome = Over v }) size, ed ∙ ap (λ (b : Bool). pick b d₀ (put 0 line d₀)) t)
+    let size : n ≡ length line = en ∙ ap (λ (b : Bool). pick b 0 (length line)) t in (
+      ap (λ (k : ℕ). record { unpacker = s; used = 0; written = k; outcome = Over v }) size,
+      ed ∙ ap
+          (λ (b : Bool). pick b d₀ (put 0 line d₀)) t,
+    )
 
 -- ---- the format
 
@@ -73,26 +77,39 @@ module _ (s : Unpacker) (b : List ℕ) (r : Number) (er : r ≡ readNumber b) wh
     read = ap (beginBy s) (sym q ∙ er)
 
     pub format-refused : (c : Cause) (p : ℕ) → o .verdict ≡ Faulty c p → over s (o .verdict) ≡ beginBy s (readNumber b)
-    format-refused c p e = ⊎-elim (λ (t : ltb f 2 ≡ true). absurd (never t)) (λ (t : ltb f 2 ≡ false). ap (over s) (verdict ∙ ap (λ (x : Bool). pick x Sound (Faulty InvalidState 0)) t) ∙ sym (other t) ∙ read) (cases (ltb f 2))
+    format-refused c p e =
+        ⊎-elim (λ (t : ltb f 2 ≡ true). absurd (never t))
+        (λ (t : ltb f 2 ≡ false). ap (over s) (verdict ∙ ap (λ (x : Bool). pick x Sound (Faulty InvalidState 0)) t) ∙ sym (other t) ∙ read)
+        (cases (ltb f 2))
       where
         never : ltb f 2 ≡ true → ⊥
         never t = let k = rw t at (sym verdict ∙ e) in let z : _≡_ {A = ℕ} 0 1 = cc in omega arith
 
         other : ltb f 2 ≡ false → beginBy s (Value f u) ≡ over s (Faulty InvalidState 0)
-        other t = ap (λ (x : Bool). pick x (record { next = started f u; used = u; text = []; outcome = Next }) (over s (Faulty InvalidState 0))) t
+        other t =
+            ap (λ (x : Bool). pick x (record { next = started f u; used = u; text = []; outcome = Next }) (over s (Faulty InvalidState 0)))
+            t
 
     pub format-read : (d : List ℕ) → o .verdict ≡ Sound
-        → Made (beginBy s (readNumber b)) (record { unpacker = record { reader = o .reader; entries = 0; offset = u }; used = u; written = 0; outcome = Next }) d d
+        → Made (beginBy s (readNumber b))
+        (record { unpacker = record { reader = o .reader; entries = 0; offset = u }; used = u; written = 0; outcome = Next }) d d
     format-read d e = ⊎-elim yes (λ (t : ltb f 2 ≡ false). absurd (never t)) (cases (ltb f 2))
       where
         never : ltb f 2 ≡ false → ⊥
         never t = let k = rw t at (sym verdict ∙ e) in let z : _≡_ {A = ℕ} 0 1 = cc in omega arith
 
-        yes : ltb f 2 ≡ true → Made (beginBy s (readNumber b)) (record { unpacker = record { reader = o .reader; entries = 0; offset = u }; used = u; written = 0; outcome = Next }) d d
+        yes : ltb f 2 ≡ true
+            → Made (beginBy s (readNumber b))
+            (record { unpacker = record { reader = o .reader; entries = 0; offset = u }; used = u; written = 0; outcome = Next }) d d
         yes t =
             as-turn (record { next = started f u; used = u; text = []; outcome = Next }) (beginBy s (readNumber b)) _ d d
-            (sym (ap (λ (x : Bool). pick x (record { next = started f u; used = u; text = []; outcome = Next }) (over s (Faulty InvalidState 0))) t) ∙ read)
-            (ap (λ (x : Opened). record { unpacker = record { reader = x .reader; entries = 0; offset = u }; used = u; written = 0; outcome = Next }) eo, sym (put-none 0 d))
+            (sym (ap (λ (x : Bool). pick x (record { next = started f u; used = u; text = []; outcome = Next })
+            (over s (Faulty InvalidState 0))) t) ∙ read) (
+              ap (λ (x : Opened). record
+                  { unpacker = record { reader = x .reader; entries = 0; offset = u }; used = u; written = 0; outcome = Next }) eo,
+              sym
+                  (put-none 0 d),
+            )
 
 -- a call before the format
 module _ (s : Unpacker) (b : List ℕ) (ended : Bool) where
@@ -133,7 +150,8 @@ module _ (s : Unpacker) (c : List ℕ) (k : ℕ) (ek : k ≡ 352) (a : Step) (ea
   step = ea ∙ ap (reading (s .reader) c) ek
 
   pub container-refused : (q : Cause) (p : ℕ) → a .answer ≡ Refused q p → over s (Faulty q p) ≡ containerTurn s c
-  container-refused q p e = ap (turnBy s (reading (s .reader) c 352 .reader) (linesOf (records (s .reader) c))) (sym e ∙ ap (λ (x : Step). x .answer) step)
+  container-refused q p e =
+      ap (turnBy s (reading (s .reader) c 352 .reader) (linesOf (records (s .reader) c))) (sym e ∙ ap (λ (x : Step). x .answer) step)
 
   module _ (n : ℕ) (g : Grant) (e : a .answer ≡ Done n g) where
     accepted : reading (s .reader) c 352 .answer ≡ Done n g
@@ -164,11 +182,14 @@ module _ (s : Unpacker) (c : List ℕ) (k : ℕ) (ek : k ≡ 352) (a : Step) (ea
           let l = records (s .reader) c in
           let few = done-few (s .reader) c n g accepted in
           let t : leb (length l) (length d₀ / 2) ≡ true = le-leb (length l) (length d₀ / 2) (omega arith) in
-          let size : w ≡ length (linesOf l) = ew ∙ ap (λ (x : List ℕ). linesLength x (length d₀)) records-are ∙ ap (λ (b : Bool). pick b (length (linesOf l)) 0) t in
-          as-turn (record { next = stepped s (reading (s .reader) c 352 .reader); used = 256; text = linesOf l; outcome = Next }) (containerTurn s c) _ d₀ d
+          let size : w ≡ length (linesOf l) = ew ∙ ap (λ (x : List ℕ). linesLength x (length d₀)) records-are ∙ ap
+          (λ (b : Bool). pick b (length (linesOf l)) 0) t in
+          as-turn (record { next = stepped s (reading (s .reader) c 352 .reader); used = 256; text = linesOf l; outcome = Next })
+          (containerTurn s c) _ d₀ d
           (ap (turnBy s (reading (s .reader) c 352 .reader) (linesOf l)) (sym accepted)) (
             ap (λ (j : ℕ). record { unpacker = stepped s (a .reader); used = 256; written = j; outcome = Next }) size
-                ∙ ap (λ (x : Step). record { unpacker = stepped s (x .reader); used = 256; written = length (linesOf l); outcome = Next }) step,
+                ∙ ap (λ (x : Step). record { unpacker = stepped s (x .reader); used = 256; written = length (linesOf l); outcome = Next })
+                step,
             ed ∙ ap (λ (x : List ℕ). linesRoom x d₀) records-are ∙ ap (λ (b : Bool). pick b (put 0 (linesOf l) d₀) d₀) t,
           )
 
@@ -179,10 +200,18 @@ module _ (s : Unpacker) (b : List ℕ) (ended : Bool) (d₀ d : List ℕ) (r : U
   Called = (r ≡ consuming s b ended (length d₀)) × (d ≡ consumedRoom s b ended d₀)
 
   pub too-small : length d₀ < leastRoom → r ≡ noRoom s → d ≡ d₀ → Called
-  too-small h er ed = let t = lt-ltb (length d₀) leastRoom h in (er ∙ sym (ap (λ (x : Bool). pick x (noRoom s) (answered (turn s b ended))) t), ed ∙ sym (ap (λ (x : Bool). pick x d₀ (put 0 (turn s b ended .text) d₀)) t))
+  too-small h er ed =
+      let t = lt-ltb (length d₀) leastRoom h in (
+        er ∙ sym (ap (λ (x : Bool). pick x (noRoom s) (answered (turn s b ended))) t),
+        ed ∙ sym
+            (ap (λ (x : Bool). pick x d₀ (put 0 (turn s b ended .text) d₀)) t),
+      )
 
   pub called : leastRoom ≤ length d₀ → (t : Turn) → turn s b ended ≡ t → Made t r d₀ d → Called
   called h t e m =
       let large = le-ltb (length d₀) leastRoom h in
-      let k = as-turn t (turn s b ended) r d₀ d (sym e) m in
-      (k .0 ∙ sym (ap (λ (x : Bool). pick x (noRoom s) (answered (turn s b ended))) large), k .1 ∙ sym (ap (λ (x : Bool). pick x d₀ (put 0 (turn s b ended .text) d₀)) large))
+      let k = as-turn t (turn s b ended) r d₀ d (sym e) m in (
+        k .0 ∙ sym (ap (λ (x : Bool). pick x (noRoom s) (answered (turn s b ended))) large),
+        k .1 ∙ sym
+            (ap (λ (x : Bool). pick x d₀ (put 0 (turn s b ended .text) d₀)) large),
+      )

@@ -31,7 +31,9 @@ part-pack-into-start : tie.Need-part-pack-into-start
 part-pack-into-start c = search needs
 
 part-pack-into-end : tie.Need-part-pack-into-end
-part-pack-into-end c = let h = subst (Inside (length (c .before .before .before .before .before .read-all .last .0))) (c .before .before .input .given .1) (c .before .before .before .before .before .read-all .ensures) in search needs
+part-pack-into-end c =
+    let c5 = c .before .before .before .before .before in
+    let h = subst (Inside (length (c5 .read-all .last .0))) (c .before .before .input .given .1) (c5 .read-all .ensures) in search needs
 
 slice-aggregate-pack-into : tie.Need-slice-aggregate-pack-into
 slice-aggregate-pack-into c = search needs

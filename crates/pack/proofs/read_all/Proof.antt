@@ -25,16 +25,22 @@ enum-known-refill c = search needs
 
 -- a turn has read at least a byte
 read : (c : tie.After-known-told Inv-loop μ-loop) → let h = c .before .before .before .before .before .before .before .before in
-    (h .loop .have < c .before .refill .given .0 .0) × (c .before .refill .given .0 .0 ≤ length (c .before .before .before .before .before .read-more .last .0))
+    (h .loop .have < c .before .refill .given .0 .0)
+    × (c .before .refill .given .0 .0 ≤ length (c .before .before .before .before .before .read-more .last .0))
 read c =
-    let h = c .before .before .before .before .before .before .before .before in
-    got-more (h .loop .space) _ _ _ _ (h .loop .inv .0) (c .before .before .before .before .before .read-more .ensures) (c .before .refill .given .1)
+    let c5 = c .before .before .before .before .before in
+    let c8 = c5 .before .before .before in
+    let h = c8 in
+    got-more (h .loop .space) _ _ _ _ (h .loop .inv .0) (c5 .read-more .ensures) (c .before .refill .given .1)
 
 loop-less : tie.Need-loop-less Inv-loop μ-loop
 loop-less c = let h = read c in search needs
 
 loop-again : tie.Need-loop-again Inv-loop μ-loop
-loop-again c = (read c .1, c .before .before .before .before .before .read-more .ensures .long ∙ c .before .before .before .before .before .before .before .before .loop .inv .1)
+loop-again c =
+    let c5 = c .before .before .before .before .before in
+    let c8 = c5 .before .before .before in
+    (read c .1, c5 .read-more .ensures .long ∙ c8 .loop .inv .1)
 
 enum-told : tie.Need-enum-told Inv-loop μ-loop
 enum-told c = search needs

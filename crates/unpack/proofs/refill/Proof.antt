@@ -38,25 +38,43 @@ same-length : tie.Need-same-length
 same-length c = search needs
 
 returns : tie.Need-returns
-returns c = refill-got (c .before .before .before .before .before .before .before .before .before .args .buf .now) (c .before .before .before .before .before .before .read-more .last .0) (c .before .before .before .before .before .before .before .before .before .args .at) (c .before .before .before .before .before .before .before .before .before .args .have) (c .before .before .before .before .before .before .before .before .before .pre) _ (c .before .before .before .before .before .before .read-more .ensures) _ _ (c .before .before .refill .given .1) (c .frame .ensures)
+returns c =
+    let c6 = c .before .before .before .before .before .before in
+    let c9 = c6 .before .before .before in
+    let s = c9 in
+    let k = c6 .read-more in
+    refill-got (s .args .buf .now) (k .last .0) (s .args .at) (s .args .have) (s .pre) _ (k .ensures) _ _
+    (c .before .before .refill .given .1) (c .frame .ensures)
 
 same-length-2 : tie.Need-same-length-2
 same-length-2 c = search needs
 
 returns-2 : tie.Need-returns-2
-returns-2 c = refill-end (c .before .before .before .before .before .before .before .before .args .buf .now) (c .before .before .before .before .before .read-more .last .0) (c .before .before .before .before .before .before .before .before .args .at) (c .before .before .before .before .before .before .before .before .args .have) (c .before .before .before .before .before .before .before .before .pre) _ (c .before .before .before .before .before .read-more .ensures) _ (c .before .enum-told .given .1) (c .frame2 .ensures)
+returns-2 c =
+    let c5 = c .before .before .before .before .before in
+    let c8 = c5 .before .before .before in
+    let s = c8 in
+    let k = c5 .read-more in
+    refill-end (s .args .buf .now) (k .last .0) (s .args .at) (s .args .have) (s .pre) _ (k .ensures) _ (c .before .enum-told .given .1)
+    (c .frame2 .ensures)
 
 same-length-3 : tie.Need-same-length-3
 same-length-3 c = search needs
 
 returns-3 : tie.Need-returns-3
-returns-3 c = refill-failed (c .before .before .before .before .before .before .before .before .args .buf .now) (c .before .before .before .before .before .read-more .last .0) (c .before .before .before .before .before .before .before .before .args .at) (c .before .before .before .before .before .before .before .before .args .have) (c .before .before .before .before .before .before .before .before .pre) _ (c .before .before .before .before .before .read-more .ensures) _ (c .frame3 .ensures)
+returns-3 c =
+    let s = c .before .before .before .before .before .before .before .before in
+    let k = c .before .before .before .before .before .read-more in
+    refill-failed (s .args .buf .now) (k .last .0) (s .args .at) (s .args .have) (s .pre) _ (k .ensures) _ (c .frame3 .ensures)
 
 same-length-4 : tie.Need-same-length-4
 same-length-4 c = search needs
 
 returns-4 : tie.Need-returns-4
-returns-4 c = refill-failed (c .before .before .before .before .before .before .before .before .args .buf .now) (c .before .before .before .before .before .read-more .last .0) (c .before .before .before .before .before .before .before .before .args .at) (c .before .before .before .before .before .before .before .before .args .have) (c .before .before .before .before .before .before .before .before .pre) _ (c .before .before .before .before .before .read-more .ensures) _ (c .frame4 .ensures)
+returns-4 c =
+    let s = c .before .before .before .before .before .before .before .before in
+    let k = c .before .before .before .before .before .read-more in
+    refill-failed (s .args .buf .now) (k .last .0) (s .args .at) (s .args .have) (s .pre) _ (k .ensures) _ (c .frame4 .ensures)
 
 pub refill-spec : {M : Type 1} → statement M
 refill-spec =

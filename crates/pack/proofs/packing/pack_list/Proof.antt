@@ -29,9 +29,11 @@ same-length c = c .before .before .before .loop .inv .long
 
 returns : tie.Need-returns Inv-loop μ-loop
 returns c =
-    let h = c .before .before .before in
+    let c3 = c .before .before .before in
+    let h = c3 in
     let s = h .before .before .before in
-    let r = packed-done _ _ _ _ _ _ _ (h .loop .inv) (s .pre .1) (λ i. h .before .before .shared-slice-known .given i .fits) (sym (c .before .is-done .ensures) ∙ c .if1 .taken) in
+    let r = packed-done _ _ _ _ _ _ _ (h .loop .inv) (s .pre .1) (λ i. h .before .before .shared-slice-known .given i .fits)
+    (sym (c .before .is-done .ensures) ∙ c .if1 .taken) in
     (r .end, (r .room, r .within))
 
 add-end : tie.Need-add-end Inv-loop μ-loop
@@ -65,15 +67,23 @@ write-refusal-requires : tie.Need-write-refusal-requires Inv-loop μ-loop
 write-refusal-requires c κs = search needs
 
 -- the line of a refusal
-refused : (c : tie.After-slice-known3 Inv-loop μ-loop) → let s = c .before .before .before .before .before .before .before .before .before .before .before .before .before .before .before .before .before .before in
-    Done (s .args .fresh .format) (s .args .list .now) (s .args .room .now) (c .before .before .write-refusal .last .1 .1 .0) (c .before .before .write-refusal .result)
+refused : (c : tie.After-slice-known3 Inv-loop μ-loop)
+    → let early = c .before .before .before .before .before .before .before .before in
+    let s = early .before .before .before .before .before .before .before .before .before .before in
+    Done (s .args .fresh .format) (s .args .list .now) (s .args .room .now) (c .before .before .write-refusal .last .1 .1 .0)
+    (c .before .before .write-refusal .result)
 refused c =
-    let h = c .before .before .before .before .before .before .before .before .before .before .before .before .before .before .before in
+    let c5 = c .before .before .before .before .before in
+    let c9 = c5 .before .before .before .before in
+    let c14 = c9 .before .before .before .before .before in
+    let c15 = c14 .before in
+    let h = c15 in
     let s = h .before .before .before in
-    let filled = c .before .before .before .before .before .before .before .before .before .fill-container .ensures in
+    let filled = c9 .fill-container .ensures in
     let told = c .before .before .write-refusal .ensures in
-    packed-refused _ _ _ _ _ _ _ (h .loop .inv) (s .pre .1) (λ i. h .before .before .shared-slice-known .given i .fits) (s .pre .2) (c .before .before .before .before .before .before .before .before .before .before .before .before .before .before .loop-test .taken) _ _ (filled .0) (filled .1) _ _
-    (c .before .before .before .before .before .answer .given .1) _ _ (told .0) (told .1)
+    packed-refused _ _ _ _ _ _ _ (h .loop .inv) (s .pre .1) (λ i. h .before .before .shared-slice-known .given i .fits) (s .pre .2)
+    (c14 .loop-test .taken) _ _ (filled .0) (filled .1) _ _
+    (c5 .answer .given .1) _ _ (told .0) (told .1)
 
 same-length-2 : tie.Need-same-length-2 Inv-loop μ-loop
 same-length-2 c = refused c .long
@@ -85,17 +95,26 @@ enum-known-answer-2 : tie.Need-enum-known-answer-2 Inv-loop μ-loop
 enum-known-answer-2 c = search needs
 
 -- one container more
-more : (c : tie.After-writer Inv-loop μ-loop) → let h = c .before .before .before .before .before .before .before .before .before .before .before .before in
+more : (c : tie.After-writer Inv-loop μ-loop)
+    → let h = c .before .before .before .before .before .before .before .before .before .before .before .before in
     let s = h .before .before .before in
     Packed (s .args .fresh .format) (s .args .list .now) (s .args .room .now)
-    (putMid (h .loop .to) ((h .loop .to + 256) - h .loop .to) (h .loop .room) (c .before .before .before .before .before .before .fill-container .last .1 .1 .0))
-    (c .before .before .before .before .before .before .fill-container .result .writer) (h .loop .at + c .before .before .answer2 .given .0 .0) (h .loop .to + 256)
+    (putMid (h .loop .to) ((h .loop .to + 256) - h .loop .to) (h .loop .room)
+    (c .before .before .before .before .before .before .fill-container .last .1 .1 .0))
+    (c .before .before .before .before .before .before .fill-container .result .writer)
+    (h .loop .at + c .before .before .answer2 .given .0 .0) (h .loop .to + 256)
 more c =
-    let h = c .before .before .before .before .before .before .before .before .before .before .before .before in
+    let c6 = c .before .before .before .before .before .before in
+    let c9 = c6 .before .before .before in
+    let c10 = c9 .before in
+    let c11 = c10 .before in
+    let c12 = c11 .before in
+    let h = c12 in
     let s = h .before .before .before in
-    let filled = c .before .before .before .before .before .before .fill-container .ensures in
-    packed-more _ _ _ _ _ _ _ (h .loop .inv) (s .pre .1) (λ i. h .before .before .shared-slice-known .given i .fits) (s .pre .2) (c .before .before .before .before .before .before .before .before .before .before .before .loop-test .taken) _ _ (filled .0) (filled .1) _
-    (c .before .before .answer2 .given .1) (sym (c .before .before .before .before .before .before .before .before .before .before .is-done .ensures) ∙ c .before .before .before .before .before .before .before .before .before .if1 .left)
+    let filled = c6 .fill-container .ensures in
+    packed-more _ _ _ _ _ _ _ (h .loop .inv) (s .pre .1) (λ i. h .before .before .shared-slice-known .given i .fits) (s .pre .2)
+    (c11 .loop-test .taken) _ _ (filled .0) (filled .1) _
+    (c .before .before .answer2 .given .1) (sym (c10 .is-done .ensures) ∙ c9 .if1 .left)
 
 add-at : tie.Need-add-at Inv-loop μ-loop
 add-at c = let h = more c in search needs

@@ -51,8 +51,11 @@ loop-less c = search needs
 
 loop-again : tie.Need-loop-again Inv-loop μ-loop
 loop-again c =
-    let h = c .before .before .before .before .before in
-    hexed-more _ _ _ _ (h .before .before .before .pre) (h .loop .inv) (c .before .before .before .before .loop-test .taken) _ _ (c .before .before .form-digit .ensures) (c .form-digit2 .ensures)
+    let c4 = c .before .before .before .before in
+    let c5 = c4 .before in
+    let h = c5 in
+    hexed-more _ _ _ _ (h .before .before .before .pre) (h .loop .inv) (c4 .loop-test .taken) _ _ (c .before .before .form-digit .ensures)
+    (c .form-digit2 .ensures)
 
 mul-room-3 : tie.Need-mul-room-3 Inv-loop μ-loop
 mul-room-3 c = search needs

@@ -8,7 +8,8 @@ use lib.ListN.{length, drop, length-drop}
 use Rattle.record.specs.Records.{firstOf}
 use Rattle.record.specs.declared.list.First.the-variants.{Whole}
 use Rattle.record.proofs.RecordLaws.{found}
-use Rattle.text.proofs.MessageLaws.{lines-empty, lines-bad, lines-none, Lined, lined-none, too-small, lined-all, Turn, turn, line-asks, lined-more}
+use Rattle.text.proofs.MessageLaws.{lines-empty, lines-bad, lines-none, Lined, lined-none, too-small}
+use Rattle.text.proofs.MessageLaws.{lined-all, Turn, turn, line-asks, lined-more}
 use Rattle.text.proofs.messages.write_messages.Statement.{statement}
 use Rattle.text.proofs.messages.write_messages.Tie as tie
 
@@ -44,9 +45,11 @@ same-length c = c .before .before .before .before .before .loop .inv .long
 
 returns-2 : tie.Need-returns-2 Inv-loop μ-loop
 returns-2 c =
-    let h = c .before .before .before .before .before in
+    let c5 = c .before .before .before .before .before in
+    let h = c5 in
     let l = h .before .before .before .before .args .list .now in
-    lined-all l _ _ _ _ (h .before .if1 .left) (h .loop .inv) (lines-empty _ (found l (h .loop .at) _ _ (c .before .before .read-record .ensures) (c .enum-told .given .1)))
+    lined-all l _ _ _ _ (h .before .if1 .left) (h .loop .inv)
+    (lines-empty _ (found l (h .loop .at) _ _ (c .before .before .read-record .ensures) (c .enum-told .given .1)))
 
 enum-told-2 : tie.Need-enum-told-2 Inv-loop μ-loop
 enum-told-2 c = search needs
@@ -56,24 +59,31 @@ same-length-2 c = c .before .before .before .before .before .loop .inv .long
 
 returns-3 : tie.Need-returns-3 Inv-loop μ-loop
 returns-3 c =
-    let h = c .before .before .before .before .before in
+    let c5 = c .before .before .before .before .before in
+    let h = c5 in
     let l = h .before .before .before .before .args .list .now in
-    lined-all l _ _ _ _ (h .before .if1 .left) (h .loop .inv) (lines-bad _ (found l (h .loop .at) _ _ (c .before .before .read-record .ensures) (c .enum-told2 .given .1)))
+    lined-all l _ _ _ _ (h .before .if1 .left) (h .loop .inv)
+    (lines-bad _ (found l (h .loop .at) _ _ (c .before .before .read-record .ensures) (c .enum-told2 .given .1)))
 
 enum-known-first : tie.Need-enum-known-first Inv-loop μ-loop
 enum-known-first c = search needs
 
 -- the record of a turn
 whole : (c : tie.After-known-told Inv-loop μ-loop) → let h = c .before .before .before .before .before .before in
-    firstOf (drop (h .loop .at) (h .before .before .before .before .args .list .now)) ≡ Whole (c .before .first .given .0 .0) (c .before .first .given .0 .1 .0)
+    firstOf (drop (h .loop .at) (h .before .before .before .before .args .list .now)) ≡ Whole (c .before .first .given .0 .0)
+    (c .before .first .given .0 .1 .0)
 whole c =
-    let h = c .before .before .before .before .before .before in
-    found (h .before .before .before .before .args .list .now) (h .loop .at) _ _ (c .before .before .before .read-record .ensures) (c .before .first .given .1)
+    let c3 = c .before .before .before in
+    let c6 = c3 .before .before .before in
+    let h = c6 in
+    found (h .before .before .before .before .args .list .now) (h .loop .at) _ _ (c3 .read-record .ensures) (c .before .first .given .1)
 
 passed : (c : tie.After-known-told Inv-loop μ-loop) → let h = c .before .before .before .before .before .before in
-    Turn (h .before .before .before .before .args .list .now) (h .loop .room) (h .loop .at) (h .loop .to) (c .before .first .given .0 .0) (c .before .first .given .0 .1 .0)
+    Turn (h .before .before .before .before .args .list .now) (h .loop .room) (h .loop .at) (h .loop .to) (c .before .first .given .0 .0)
+    (c .before .first .given .0 .1 .0)
 passed c =
-    let h = c .before .before .before .before .before .before in
+    let c6 = c .before .before .before .before .before .before in
+    let h = c6 in
     turn _ _ _ _ _ (h .before .if1 .left) (h .loop .inv) (λ i. h .before .before .before .shared-slice-known .given i .fits) _ _ (whole c)
 
 add-from : tie.Need-add-from Inv-loop μ-loop
@@ -102,20 +112,26 @@ part-write-line-end-2 c = let h = passed (c .before) in search needs
 
 write-line-requires : tie.Need-write-line-requires Inv-loop μ-loop
 write-line-requires c κs =
-    let h = c .before .before .before .before .before .before .before .before in
-    line-asks _ _ _ _ _ (h .before .if1 .left) (h .loop .inv) (λ i. h .before .before .before .shared-slice-known .given i .fits) _ _ (whole (c .before .before))
+    let c8 = c .before .before .before .before .before .before .before .before in
+    let h = c8 in
+    line-asks _ _ _ _ _ (h .before .if1 .left) (h .loop .inv) (λ i. h .before .before .before .shared-slice-known .given i .fits) _ _
+    (whole (c .before .before))
 
 -- the lines behind the turn
-wrote : (c : tie.After-slice-known2 Inv-loop μ-loop) → let h = c .before .before .before .before .before .before .before .before .before .before .before in
+wrote : (c : tie.After-slice-known2 Inv-loop μ-loop)
+    → let h = c .before .before .before .before .before .before .before .before .before .before .before in
     let n = length (h .loop .room) - h .loop .to in
     Lined (h .before .before .before .before .args .list .now) (h .before .before .before .before .args .room .now)
     (putMid (h .loop .to) n (h .loop .room) (c .before .before .write-line .last .1 .0))
-    (h .loop .at + c .before .before .before .before .before .before .first .given .0 .1 .0) (h .loop .to + c .before .before .write-line .result)
+    (h .loop .at + c .before .before .before .before .before .before .first .given .0 .1 .0)
+    (h .loop .to + c .before .before .write-line .result)
 wrote c =
-    let h = c .before .before .before .before .before .before .before .before .before .before .before in
+    let c5 = c .before .before .before .before .before in
+    let c11 = c5 .before .before .before .before .before .before in
+    let h = c11 in
     let w = c .before .before .write-line .ensures in
     lined-more _ _ _ _ _ (h .before .if1 .left) (h .loop .inv) (λ i. h .before .before .before .shared-slice-known .given i .fits) _ _
-    (whole (c .before .before .before .before .before)) _ _ (w .0) (w .1)
+    (whole (c5)) _ _ (w .0) (w .1)
 
 add-to : tie.Need-add-to Inv-loop μ-loop
 add-to c = let h = wrote c in search needs
@@ -133,7 +149,8 @@ returns-4 : tie.Need-returns-4 Inv-loop μ-loop
 returns-4 c =
     let h = c .before in
     let l = h .before .before .before .before .args .list .now in
-    lined-all l _ _ _ _ (h .before .if1 .left) (h .loop .inv) (lines-none (drop (h .loop .at) l) (length-drop (h .loop .at) l ∙ omega arith))
+    lined-all l _ _ _ _ (h .before .if1 .left) (h .loop .inv)
+    (lines-none (drop (h .loop .at) l) (length-drop (h .loop .at) l ∙ omega arith))
 
 pub write-messages-spec : {M : Type 1} → statement M
 write-messages-spec =

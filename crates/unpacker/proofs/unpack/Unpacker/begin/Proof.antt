@@ -11,13 +11,20 @@ same-length : tie.Need-same-length
 same-length c = search needs
 
 returns : tie.Need-returns
-returns c = as-turn _ _ _ _ _ (begin-ended (c .before .before .before .before .before .before .before .args .self) (c .before .before .before .before .before .before .before .args .bytes .now) (c .before .before .before .before .before .before .before .args .ended) (c .before .before .before .before .if1 .taken)) (c .before .before .read-format .ensures)
+returns c =
+    let c4 = c .before .before .before .before in
+    let c7 = c4 .before .before .before in
+    as-turn _ _ _ _ _ (begin-ended (c7 .args .self) (c7 .args .bytes .now) (c7 .args .ended) (c4 .if1 .taken))
+    (c .before .before .read-format .ensures)
 
 wait-requires : tie.Need-wait-requires
 wait-requires c κs = search needs
 
 returns-2 : tie.Need-returns-2
-returns-2 c = waited _ _ _ _ (begin-short (c .before .before .before .before .before .args .self) (c .before .before .before .before .before .args .bytes .now) (c .before .before .before .before .before .args .ended) (c .before .before .if1 .left) (c .before .if2 .taken)) (c .wait .ensures)
+returns-2 c =
+    let c5 = c .before .before .before .before .before in
+    waited _ _ _ _ (begin-short (c5 .args .self) (c5 .args .bytes .now) (c5 .args .ended) (c .before .before .if1 .left)
+    (c .before .if2 .taken)) (c .wait .ensures)
 
 read-format-requires-2 : tie.Need-read-format-requires-2
 read-format-requires-2 c κs = search needs
@@ -26,7 +33,12 @@ same-length-2 : tie.Need-same-length-2
 same-length-2 c = search needs
 
 returns-3 : tie.Need-returns-3
-returns-3 c = as-turn _ _ _ _ _ (begin-long (c .before .before .before .before .before .before .before .before .args .self) (c .before .before .before .before .before .before .before .before .args .bytes .now) (c .before .before .before .before .before .before .before .before .args .ended) (c .before .before .before .before .before .if1 .left) (c .before .before .before .before .if2 .left)) (c .before .before .read-format2 .ensures)
+returns-3 c =
+    let c4 = c .before .before .before .before in
+    let c5 = c4 .before in
+    let c8 = c5 .before .before .before in
+    as-turn _ _ _ _ _ (begin-long (c8 .args .self) (c8 .args .bytes .now) (c8 .args .ended) (c5 .if1 .left) (c4 .if2 .left))
+    (c .before .before .read-format2 .ensures)
 
 pub begin-spec : {M : Type 1} → statement M
 begin-spec =

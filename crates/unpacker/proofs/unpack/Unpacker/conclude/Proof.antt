@@ -11,7 +11,9 @@ same-length : tie.Need-same-length
 same-length c = search needs
 
 returns : tie.Need-returns
-returns c = concluded _ _ _ _ _ (c .before .before .before .before .before .pre) (c .before .before .write-verdict .ensures .0) (c .before .before .write-verdict .ensures .1)
+returns c =
+    let c5 = c .before .before .before .before .before in
+    concluded _ _ _ _ _ (c5 .pre) (c .before .before .write-verdict .ensures .0) (c .before .before .write-verdict .ensures .1)
 
 pub conclude-spec : {M : Type 1} → statement M
 conclude-spec = tie.close (tie.spec write-verdict-requires same-length returns)

@@ -18,13 +18,18 @@ add-if3 : tie.Need-add-if3
 add-if3 c = search needs
 
 returns-3 : tie.Need-returns-3
-returns-3 c = valid-far (c .before .before .before .before .args .self) (c .before .before .if1 .left) (c .before .if2 .left) (c .if3 .taken)
+returns-3 c =
+    let c4 = c .before .before .before .before in
+    valid-far (c4 .args .self) (c .before .before .if1 .left) (c .before .if2 .left) (c .if3 .taken)
 
 is-valid-requires : tie.Need-is-valid-requires
 is-valid-requires c κs = search needs
 
 returns-4 : tie.Need-returns-4
-returns-4 c = c .is-valid .ensures ∙ valid-reader (c .before .before .before .before .before .args .self) (c .before .before .before .if1 .left) (c .before .before .if2 .left) (c .before .if3 .left)
+returns-4 c =
+    let c3 = c .before .before .before in
+    let c5 = c3 .before .before in
+    c .is-valid .ensures ∙ valid-reader (c5 .args .self) (c3 .if1 .left) (c .before .before .if2 .left) (c .before .if3 .left)
 
 pub is-valid-spec : {M : Type 1} → statement M
 is-valid-spec =

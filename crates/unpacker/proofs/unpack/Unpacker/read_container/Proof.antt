@@ -27,7 +27,11 @@ part-write-messages-start : tie.Need-part-write-messages-start
 part-write-messages-start c = search needs
 
 part-write-messages-end : tie.Need-part-write-messages-end
-part-write-messages-end c = let h = records-within (c .before .before .before .before .before .before .before .before .before .before .args .self) _ _ refl _ (c .before .before .before .before .before .read .ensures .0) _ _ (c .before .before .answer2 .given .1) _ _ refl (c .before .before .before .before .before .read .ensures .1) in search needs
+part-write-messages-end c =
+    let c5 = c .before .before .before .before .before in
+    let c10 = c5 .before .before .before .before .before in
+    let h = records-within (c10 .args .self) _ _ refl _ (c5 .read .ensures .0) _ _ (c .before .before .answer2 .given .1) _ _ refl
+    (c5 .read .ensures .1) in search needs
 
 write-messages-requires : tie.Need-write-messages-requires
 write-messages-requires c κs = search needs
@@ -42,15 +46,24 @@ same-length : tie.Need-same-length
 same-length c = search needs
 
 returns : tie.Need-returns
-returns c = as-turn _ _ _ _ _ (container-refused _ _ _ refl _ (c .before .before .before .before .before .before .before .before .read .ensures .0) _ _ (c .before .before .before .before .before .answer .given .1)) (c .before .before .conclude .ensures)
+returns c =
+    let c5 = c .before .before .before .before .before in
+    let c8 = c5 .before .before .before in
+    as-turn _ _ _ _ _ (container-refused _ _ _ refl _ (c8 .read .ensures .0) _ _ (c5 .answer .given .1))
+    (c .before .before .conclude .ensures)
 
 same-length-2 : tie.Need-same-length-2
 same-length-2 c = search needs
 
 returns-2 : tie.Need-returns-2
 returns-2 c =
-    let wrote = c .before .before .before .before .before .write-messages .ensures in
-    container-read _ _ _ refl _ (c .before .before .before .before .before .before .before .before .before .before .before .before .before .read .ensures .0) _ _ (c .before .before .before .before .before .before .before .before .before .before .answer2 .given .1) _ _ refl (c .before .before .before .before .before .before .before .before .before .before .before .before .before .read .ensures .1) _ _ _ (c .before .before .before .before .before .before .before .before .before .before .before .before .before .before .before .before .before .before .pre .2) (wrote .0) (wrote .1)
+    let c5 = c .before .before .before .before .before in
+    let c10 = c5 .before .before .before .before .before in
+    let c13 = c10 .before .before .before in
+    let c18 = c13 .before .before .before .before .before in
+    let wrote = c5 .write-messages .ensures in
+    container-read _ _ _ refl _ (c13 .read .ensures .0) _ _ (c10 .answer2 .given .1) _ _ refl (c13 .read .ensures .1) _ _ _ (c18 .pre .2)
+    (wrote .0) (wrote .1)
 
 pub read-container-spec : {M : Type 1} → statement M
 read-container-spec =

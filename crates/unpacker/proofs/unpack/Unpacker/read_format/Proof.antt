@@ -29,7 +29,13 @@ same-length : tie.Need-same-length
 same-length c = search needs
 
 returns : tie.Need-returns
-returns c = as-turn _ _ _ _ _ (format-refused _ _ _ (c .before .before .before .before .before .before .before .before .before .before .read-number .ensures) _ _ (c .before .before .before .before .before .before .before .before .number .given .1) _ (c .before .before .before .before .before .before .fresh .ensures) _ _ (c .before .before .before .before .enum-told2 .given .1)) (c .before .before .conclude2 .ensures)
+returns c =
+    let c4 = c .before .before .before .before in
+    let c6 = c4 .before .before in
+    let c8 = c6 .before .before in
+    let c10 = c8 .before .before in
+    as-turn _ _ _ _ _ (format-refused _ _ _ (c10 .read-number .ensures) _ _ (c8 .number .given .1) _ (c6 .fresh .ensures) _ _
+    (c4 .enum-told2 .given .1)) (c .before .before .conclude2 .ensures)
 
 enum-told-3 : tie.Need-enum-told-3
 enum-told-3 c = search needs
@@ -38,10 +44,17 @@ same-length-2 : tie.Need-same-length-2
 same-length-2 c = search needs
 
 returns-2 : tie.Need-returns-2
-returns-2 c = as-turn _ _ _ _ _ (format-broken _ _ _ (c .before .before .before .before .before .before .read-number .ensures) (c .before .before .before .before .enum-told .given .1)) (c .before .before .conclude .ensures)
+returns-2 c =
+    let c4 = c .before .before .before .before in
+    let c6 = c4 .before .before in
+    as-turn _ _ _ _ _ (format-broken _ _ _ (c6 .read-number .ensures) (c4 .enum-told .given .1)) (c .before .before .conclude .ensures)
 
 returns-3 : tie.Need-returns-3
-returns-3 c = format-read _ _ _ (c .before .before .before .before .before .before .before .read-number .ensures) _ _ (c .before .before .before .before .before .number .given .1) _ (c .before .before .before .fresh .ensures) _ (c .before .enum-told3 .given .1)
+returns-3 c =
+    let c3 = c .before .before .before in
+    let c5 = c3 .before .before in
+    let c7 = c5 .before .before in
+    format-read _ _ _ (c7 .read-number .ensures) _ _ (c5 .number .given .1) _ (c3 .fresh .ensures) _ (c .before .enum-told3 .given .1)
 
 pub read-format-spec : {M : Type 1} → statement M
 read-format-spec =
