@@ -56,20 +56,21 @@ module _ (own other : Receiver) (s : Reader) (c : List ℕ) where
   pub reads-by : test ≡ true → Reads own other s c
   reads-by e =
       let h = sound-pass (ruleChecks own other s c) (passes-sound (firstFault (ruleChecks own other s c)) (and-right (eqb (length c) 256) (passes (firstFault (ruleChecks own other s c))) e)) in
-      let b = pass-back (stateChecks s c) (allMessages own (startsIn s c) ++ allGrants other (grantsFrom s c)) h in
+      let b = pass-back (stateChecks s c) (allMessages own (startsIn s c) ++ (allGrants other (grantsFrom s c) ++ [])) h in
       record {
         long = eqb-true (length c) 256 (and-left (eqb (length c) 256) (passes (firstFault (ruleChecks own other s c))) e);
-        state = pass-front (stateChecks s c) (allMessages own (startsIn s c) ++ allGrants other (grantsFrom s c)) h;
-        messages = pass-front (allMessages own (startsIn s c)) (allGrants other (grantsFrom s c)) b;
-        grants = pass-back (allMessages own (startsIn s c)) (allGrants other (grantsFrom s c)) b;
+        state = pass-front (stateChecks s c) (allMessages own (startsIn s c) ++ (allGrants other (grantsFrom s c) ++ [])) h;
+        messages = pass-front (allMessages own (startsIn s c)) (allGrants other (grantsFrom s c) ++ []) b;
+        grants = pass-front (allGrants other (grantsFrom s c)) [] (pass-back (allMessages own (startsIn s c)) (allGrants other (grantsFrom s c) ++ []) b);
       }
 
   pub by-reads : Reads own other s c → test ≡ true
   by-reads r =
       and-both (eqb (length c) 256) (passes (firstFault (ruleChecks own other s c))) (eq-eqb (length c) 256 (r .long))
       (sound-passes (firstFault (ruleChecks own other s c)) (pass-sound (ruleChecks own other s c)
-      (pass-append (stateChecks s c) (allMessages own (startsIn s c) ++ allGrants other (grantsFrom s c)) (r .state)
-      (pass-append (allMessages own (startsIn s c)) (allGrants other (grantsFrom s c)) (r .messages) (r .grants)))))
+      (pass-append (stateChecks s c) (allMessages own (startsIn s c) ++ (allGrants other (grantsFrom s c) ++ [])) (r .state)
+      (pass-append (allMessages own (startsIn s c)) (allGrants other (grantsFrom s c) ++ []) (r .messages)
+      (pass-append (allGrants other (grantsFrom s c)) [] (r .grants) tt)))))
 
 -- ---- no pool past the last
 -- a valid receiver has at most eight planes
