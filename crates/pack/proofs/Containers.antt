@@ -7,12 +7,11 @@ use mathlib.Core.Logic.{⊎-elim}
 use native.Mathlib.Omega.{arith}
 use lib.ListN.{length, drop, length-append, length-drop}
 use lib.Seq.{drop-drop, drop-at}
-use lib.Dec.{eqb, ltb}
+use lib.Dec.{eqb}
 use borrow.Author.Tests.{lt-ltb, eq-eqb, eqb-true}
 use Rattle.lists.specs.Pick.{pick}
 use Rattle.lists.specs.Parts.{IsBytes, joinAll}
-use Rattle.lists.proofs.Tests.{cases, and-left, and-right, and-both, never-both}
-use Rattle.lists.proofs.PartLaws.{bytes-drop}
+use Rattle.lists.proofs.Tests.{cases, and-left, and-right, and-both}
 use Rattle.cause.specs.Checks.{firstFault}
 use Rattle.cause.specs.declared.Verdict.{Verdict}
 use Rattle.cause.specs.declared.Verdict.the-variants.{Sound}
@@ -22,15 +21,13 @@ use Rattle.container.specs.Layout.{Format, formatOf}
 use Rattle.message.proofs.HeadLaws.{is-message, message-size, size-most}
 use Rattle.record.specs.Number.{number, readNumber}
 use Rattle.record.specs.Records.{recordOf, recordsOf, AllMessages, listFault}
-use Rattle.record.specs.declared.number.Number.{Number}
-use Rattle.record.specs.declared.number.Number.the-variants.{Value}
 use Rattle.record.proofs.NumberLaws.{written-read, number-small}
 use Rattle.text.specs.Lines.{refusalLine}
 use Rattle.writer.specs.Laying.{filled, owesAfter, usedOf}
 use Rattle.writer.specs.Filling.{tailOf, writerWith, callChecks, fillFault}
 use Rattle.round_trip.specs.Calls.{Fills, FillingLeft, none, zeroGrant, GrantsNothing, firstGrants, UsedUp}
 use Rattle.writer.specs.declared.writer.Writer.{Writer}
-use Rattle.writer.proofs.Simulation.{idle, Left}
+use Rattle.writer.proofs.Simulation.{idle}
 use Rattle.writer.proofs.StateCases.{fill-callable}
 use Rattle.round_trip.proofs.RoundTrip.{tail-of, list-left}
 use Rattle.round_trip.proofs.Return.{list-returned}

@@ -2,7 +2,7 @@
 use Prim.Native.Nat.{ℕ, zero, suc, _+_, _-_, _*_, _≤_, _<_}
 use mathlib.Core.Path.{_≡_, refl, sym, ap, _∙_, subst}
 use mathlib.Core.Bool.{Bool, true, false, _&&_}
-use mathlib.Core.List.{List, [], _∷_, _++_, append-assoc, append-nil}
+use mathlib.Core.List.{List, [], _++_, append-assoc, append-nil}
 use mathlib.Core.Logic.{_⊎_, inl, inr, ⊎-elim}
 use native.Mathlib.Omega.{arith}
 use native.Mathlib.Nat.{zero-add}
@@ -13,7 +13,7 @@ use borrow.Author.Tests.{eqb-true, le-ltb}
 use borrow.Rule.Slice.PartMut.{putMid, put-same}
 use Rattle.lists.specs.Pick.{pick}
 use Rattle.lists.specs.Parts.{put, joinAll, IsBytes}
-use Rattle.lists.proofs.Tests.{and-left, and-right}
+use Rattle.lists.proofs.Tests.{and-right}
 use Rattle.lists.proofs.PartLaws.{rest-is, length-zero, length-part, length-put, put-middle}
 use Rattle.lists.proofs.PutLaws.{put-none, put-more}
 use Rattle.cause.specs.Checks.{whenSound}

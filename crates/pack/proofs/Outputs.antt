@@ -12,7 +12,6 @@ use Rattle.lists.specs.Pick.{pick}
 use Rattle.lists.specs.Parts.{put, IsBytes}
 use Rattle.lists.proofs.PartLaws.{rest-is, length-put}
 use Rattle.lists.proofs.Tests.{cases}
-use Rattle.cause.specs.declared.Verdict.{Verdict}
 use Rattle.cause.specs.declared.Verdict.the-variants.{Sound, Faulty}
 use Rattle.cause.specs.declared.Cause.{Cause}
 use Rattle.cause.specs.declared.Cause.the-variants.{BrokenRecord, InvalidState}

@@ -8,17 +8,17 @@ use lib.ListN.{length, take, drop, length-append, length-drop}
 use lib.Seq.{drop-drop, drop-at, take-at, drop-append-seam}
 use borrow.Author.Tests.{le-leb, lt-leb}
 use borrow.Rule.Slice.PartMut.{putMid}
-use Rattle.lists.specs.Parts.{part, put, IsBytes}
+use Rattle.lists.specs.Parts.{put, IsBytes}
 use Rattle.lists.proofs.PartLaws.{length-part, length-put, length-zero, bytes-drop, put-mid}
 use Rattle.lists.proofs.PutLaws.{put-none, put-more}
-use Rattle.message.specs.Heads.{isMessage, msgSize}
+use Rattle.message.specs.Heads.{msgSize}
 use Rattle.message.proofs.HeadLaws.{is-message, size-most}
 use Rattle.record.specs.Number.{number}
 use Rattle.record.specs.Records.{recordOf, recordsOf, AllMessages, firstOf, messageOf}
 use Rattle.record.specs.declared.list.First.{First}
 use Rattle.record.specs.declared.list.First.the-variants.{Empty, Bad, Whole}
 use Rattle.record.proofs.NumberLaws.{number-small}
-use Rattle.record.proofs.RecordLaws.{first-within, first-splits, first-written, found}
+use Rattle.record.proofs.RecordLaws.{first-within, first-splits, first-written}
 use Rattle.text.specs.Hex.{messageLine, messageLines, lineThen, linesFrom, linesOf, linesLength, linesRoom}
 use Rattle.text.proofs.HexLaws.{length-line}
 

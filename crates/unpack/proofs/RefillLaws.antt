@@ -11,8 +11,7 @@ use Rattle.lists.proofs.PartLaws.{length-part}
 use Rattle.input.specs.Refills.{AtHand as InputAtHand, Refilled}
 use Rattle.input.specs.declared.Refill.{Refill}
 use Rattle.input.specs.declared.Refill.the-variants.{Got, End}
-use Rattle.unpack.specs.Turns.{AtHand, Filled, got, end, failed}
-use Rattle.unpack.specs.declared.Progress.{Progress}
+use Rattle.unpack.specs.Turns.{Filled, got, end, failed}
 use Rattle.unpack.specs.declared.Progress.the-variants.{On, Failed}
 use Rattle.unpack.specs.declared.Window.{Window}
 

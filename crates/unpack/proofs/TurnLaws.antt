@@ -22,7 +22,6 @@ use Rattle.unpacker.specs.declared.unpack.Outcome.the-variants as outcome
 use Rattle.unpacker.proofs.CutTheorem.{callsLeft, Steps, stops, goes, waits, turn-steps, turn-within}
 use Rattle.unpacker.proofs.RoomLaws.{turn-fits}
 use Rattle.unpack.specs.Turns.{held, AtHand, Filled, got, end, failed, Follows, Taken}
-use Rattle.unpack.specs.declared.Progress.{Progress}
 use Rattle.unpack.specs.declared.Progress.the-variants.{On, Over, Failed}
 use Rattle.unpack.specs.declared.Window.{Window}
 use Rattle.unpack.specs.declared.Turn.{Turn}

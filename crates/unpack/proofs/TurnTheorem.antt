@@ -1,14 +1,12 @@
 -- The texts of a chain of turns are the text for what they have read. Assumes nothing.
-use Prim.Native.Nat.{ℕ, _-_, _≤_}
+use Prim.Native.Nat.{ℕ}
 use mathlib.Core.Path.{_≡_, refl, sym, ap, _∙_, subst}
 use mathlib.Core.Bool.{Bool, true, false}
-use mathlib.Core.List.{List, [], _++_, append-assoc, append-nil}
+use mathlib.Core.List.{List, _++_, append-assoc, append-nil}
 use native.Mathlib.Omega.{arith}
-use lib.ListN.{length}
 use Rattle.lists.proofs.Tests.{never-both}
-use Rattle.cause.specs.declared.Verdict.{Verdict}
 use Rattle.unpacker.specs.Unpacking.{unpackText}
-use Rattle.unpacker.specs.Stepping.{turn, textFrom, freshUnpacker}
+use Rattle.unpacker.specs.Stepping.{turn, textFrom}
 use Rattle.unpacker.specs.Stepping.{Turn as Call}
 use Rattle.unpacker.specs.Cutting.{behind, leftBy}
 use Rattle.unpacker.specs.declared.unpack.Unpacker.{Unpacker}
@@ -16,8 +14,7 @@ use Rattle.unpacker.specs.declared.unpack.Outcome.{Outcome}
 use Rattle.unpacker.specs.declared.unpack.Outcome.the-variants as outcome
 use Rattle.unpacker.proofs.CallTheorem.{Ends, one-call}
 use Rattle.unpacker.proofs.CutTheorem.{Steps, stops, goes, waits, turn-steps, fresh-text}
-use Rattle.unpack.specs.Turns.{held, AtHand, Filled, got, end, failed, Follows, Taken, Turns, none, next, more, last, Told, Ended}
-use Rattle.unpack.specs.declared.Progress.{Progress}
+use Rattle.unpack.specs.Turns.{held, Filled, got, end, failed, Follows, Taken, Turns, none, next, more, last, Told, Ended}
 use Rattle.unpack.specs.declared.Progress.the-variants.{On, Over, Failed}
 use Rattle.unpack.specs.declared.Window.{Window}
 use Rattle.unpack.specs.declared.Turn.{Turn}

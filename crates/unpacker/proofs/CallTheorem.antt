@@ -2,18 +2,15 @@
 use Prim.Native.Nat.{ℕ, zero, suc, _+_, _-_, _≤_, _<_}
 use mathlib.Core.Path.{_≡_, refl, sym, ap, _∙_, subst}
 use mathlib.Core.Bool.{Bool, true, false}
-use mathlib.Core.List.{List, [], _∷_, _++_, append-assoc, append-nil}
+use mathlib.Core.List.{List, [], _++_, append-nil}
 use mathlib.Core.Logic.{⊎-elim}
 use native.Mathlib.Omega.{arith}
-use lib.ListN.{length, take, drop, length-append, length-drop}
+use lib.ListN.{length, take, drop, length-append}
 use lib.Seq.{take-append-le, drop-append-le}
 use lib.Dec.{eqb, ltb, leb}
 use borrow.Author.Tests.{ltb-true, ltb-false, leb-true, leb-false, lt-ltb, le-ltb, eq-eqb, ne-eqb, eqb-true, eqb-false}
 use Rattle.lists.specs.Pick.{pick}
-use Rattle.lists.specs.Parts.{joinAll}
-use Rattle.lists.proofs.Tests.{cases, never-both}
-use Rattle.lists.proofs.PartLaws.{length-zero}
-use Rattle.cause.specs.declared.Cause.{Cause}
+use Rattle.lists.proofs.Tests.{cases}
 use Rattle.cause.specs.declared.Cause.the-variants.{BrokenRecord, TooLong, InvalidState}
 use Rattle.cause.specs.declared.Verdict.{Verdict}
 use Rattle.cause.specs.declared.Verdict.the-variants.{Sound, Faulty}
@@ -23,18 +20,16 @@ use Rattle.record.specs.declared.number.Number.{Number}
 use Rattle.record.specs.declared.number.Number.the-variants.{Broken, Value}
 use Rattle.record.proofs.NumberLaws.{read-small}
 use Rattle.record.proofs.NumberTakes.{Takes, takes-number, number-append}
-use Rattle.reader.specs.Reading.{readerOk, readerWith, records, reading}
+use Rattle.reader.specs.Reading.{readerWith, records, reading}
 use Rattle.reader.specs.declared.reader.Reader.{Reader}
 use Rattle.reader.specs.declared.reader.Answer.{Answer}
 use Rattle.reader.specs.declared.reader.Answer.the-variants.{Done, Refused}
 use Rattle.text.specs.Lines.{verdictLine}
 use Rattle.text.specs.Hex.{linesOf}
-use Rattle.unpacker.specs.Unpacking.{most, linesThen, containersText, textBehind, unpackText}
+use Rattle.unpacker.specs.Unpacking.{most, linesThen, containersText, textBehind}
 use Rattle.unpacker.specs.Stepping.{mostNumber, Turn, waiting, over, started, beginBy, beginning, stepped}
-use Rattle.unpacker.specs.Stepping.{turnBy, containerTurn, running, Running, validState, turn, freshUnpacker, textFrom}
+use Rattle.unpacker.specs.Stepping.{turnBy, containerTurn, Running, validState, turn, textFrom}
 use Rattle.unpacker.specs.Cutting.{behind, leftBy}
-use Rattle.unpacker.specs.declared.unpack.Outcome.{Outcome}
-use Rattle.unpacker.specs.declared.unpack.Outcome.the-variants.{More, Next, Over}
 use Rattle.unpacker.specs.declared.unpack.Unpacker.{Unpacker}
 use Rattle.unpacker.proofs.ReadingLaws.{done-valid}
 use Rattle.unpacker.proofs.StateLaws.{new-none, turn-bad, turn-new, turn-running, text-bad, text-new}

@@ -2,12 +2,12 @@
 use Prim.Native.Nat.{ℕ, zero, suc, _+_, _-_, _≤_, _<_}
 use mathlib.Core.Path.{_≡_, refl, sym, ap, _∙_, subst}
 use mathlib.Core.Bool.{Bool, true, false}
-use mathlib.Core.List.{List, [], _∷_, _++_, append-assoc, append-nil}
+use mathlib.Core.List.{List, [], _∷_, _++_, append-assoc}
 use mathlib.Core.Logic.{⊎-elim}
 use native.Mathlib.Omega.{arith}
 use lib.ListN.{length, take, length-append, length-drop}
 use lib.Dec.{eqb, ltb, leb}
-use borrow.Author.Tests.{ltb-true, ltb-false, leb-false, eq-eqb, ne-eqb}
+use borrow.Author.Tests.{ltb-false, leb-false, eq-eqb, ne-eqb}
 use Rattle.lists.specs.Pick.{pick}
 use Rattle.lists.specs.Parts.{joinAll}
 use Rattle.lists.proofs.Tests.{cases, never-both}
@@ -24,7 +24,7 @@ use Rattle.reader.specs.declared.reader.Reader.{Reader}
 use Rattle.reader.specs.declared.reader.Answer.{Answer}
 use Rattle.reader.specs.declared.reader.Answer.the-variants.{Done, Refused}
 use Rattle.unpacker.specs.Unpacking.{most, unpackText}
-use Rattle.unpacker.specs.Stepping.{mostNumber, Turn, waiting, over, beginBy, turnBy, containerTurn}
+use Rattle.unpacker.specs.Stepping.{mostNumber, Turn, waiting, over, beginBy, turnBy}
 use Rattle.unpacker.specs.Stepping.{running, Running, validState, turn, freshUnpacker, textFrom}
 use Rattle.unpacker.specs.Cutting.{behind, leftBy, run}
 use Rattle.unpacker.specs.declared.unpack.Outcome.{Outcome}

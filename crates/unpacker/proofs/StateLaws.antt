@@ -1,14 +1,12 @@
 -- The states of an input between two calls, and what a call comes to in each. Assumes nothing.
 use Prim.Native.Nat.{ℕ, _+_, _-_, _*_, _≤_, _<_}
-use mathlib.Core.Path.{_≡_, refl, sym, ap, _∙_}
+use mathlib.Core.Path.{_≡_, sym, ap, _∙_}
 use mathlib.Core.Bool.{Bool, true, false, _&&_}
-use mathlib.Core.List.{List, []}
+use mathlib.Core.List.{List}
 use mathlib.Core.Logic.{⊎-elim}
 use native.Mathlib.Omega.{arith}
-use lib.ListN.{length}
-use lib.Dec.{eqb, ltb, leb}
+use lib.Dec.{eqb, leb}
 use borrow.Author.Tests.{lt-leb, le-leb, leb-true, eq-eqb, ne-eqb, eqb-true, eqb-false}
-use Rattle.lists.specs.Pick.{pick}
 use Rattle.lists.proofs.Tests.{cases, and-left, and-right, and-both}
 use Rattle.cause.specs.declared.Cause.the-variants.{InvalidState}
 use Rattle.cause.specs.declared.Verdict.the-variants.{Faulty}
@@ -16,7 +14,7 @@ use Rattle.record.specs.Number.{readNumber}
 use Rattle.reader.specs.Reading.{readerOk}
 use Rattle.text.specs.Lines.{verdictLine}
 use Rattle.unpacker.specs.Unpacking.{most, containersText, textBehind}
-use Rattle.unpacker.specs.Stepping.{Turn, over, beginning, running, Running, validState, turn, textFrom}
+use Rattle.unpacker.specs.Stepping.{over, beginning, running, Running, validState, turn, textFrom}
 use Rattle.unpacker.specs.declared.unpack.Unpacker.{Unpacker}
 
 module _ (s : Unpacker) where

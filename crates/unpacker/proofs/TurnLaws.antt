@@ -1,15 +1,14 @@
 -- A call as the code makes it, case by case. Assumes nothing.
-use Prim.Native.Nat.{ℕ, _+_, _-_, _*_, _/_, _≤_, _<_}
-use mathlib.Core.Path.{_≡_, refl, sym, ap, _∙_, subst}
+use Prim.Native.Nat.{ℕ, _+_, _-_, _/_, _≤_, _<_}
+use mathlib.Core.Path.{_≡_, sym, ap, _∙_}
 use mathlib.Core.Bool.{Bool, true, false}
 use mathlib.Core.List.{List, [], _++_}
 use mathlib.Core.Logic.{⊎-elim}
 use native.Mathlib.Omega.{arith}
-use native.Mathlib.Nat.{zero-add}
-use lib.ListN.{length, take, drop, replicate}
+use lib.ListN.{length, take, drop}
 use lib.Seq.{take-append-seam}
-use lib.Dec.{eqb, ltb, leb}
-use borrow.Author.Tests.{lt-ltb, le-ltb, lt-leb, le-leb, eq-eqb, ne-eqb, ltb-true}
+use lib.Dec.{ltb, leb}
+use borrow.Author.Tests.{lt-ltb, le-ltb, lt-leb, le-leb, eq-eqb, ne-eqb}
 use Rattle.lists.specs.Pick.{pick}
 use Rattle.lists.specs.Parts.{put}
 use Rattle.lists.proofs.Tests.{cases}
@@ -23,18 +22,15 @@ use Rattle.container.specs.declared.grant.Grant.{Grant}
 use Rattle.record.specs.Number.{readNumber}
 use Rattle.record.specs.declared.number.Number.{Number}
 use Rattle.record.specs.declared.number.Number.the-variants.{Broken, Value}
-use Rattle.reader.specs.Reading.{readerWith, opened, readChecks, records, reading, readRoom}
-use Rattle.reader.specs.declared.reader.Reader.{Reader}
+use Rattle.reader.specs.Reading.{opened, readChecks, records, reading, readRoom}
 use Rattle.reader.specs.declared.reader.Opened.{Opened}
 use Rattle.reader.specs.declared.reader.Step.{Step}
-use Rattle.reader.specs.declared.reader.Answer.{Answer}
 use Rattle.reader.specs.declared.reader.Answer.the-variants.{Done, Refused}
 use Rattle.text.specs.Lines.{verdictLine, answerOf, roomOf}
 use Rattle.text.specs.Hex.{linesOf, linesLength, linesRoom}
 use Rattle.unpacker.specs.Unpacking.{most}
 use Rattle.unpacker.specs.Stepping.{leastRoom, Turn, waiting, over, started, beginBy, beginning, stepped, turnBy}
-use Rattle.unpacker.specs.Stepping.{containerTurn, running, Running, validState, turn, answered, noRoom, consuming, consumedRoom}
-use Rattle.unpacker.specs.declared.unpack.Outcome.{Outcome}
+use Rattle.unpacker.specs.Stepping.{containerTurn, running, turn, answered, noRoom, consuming, consumedRoom}
 use Rattle.unpacker.specs.declared.unpack.Outcome.the-variants.{Next, Over}
 use Rattle.unpacker.specs.declared.unpack.Unpacker.{Unpacker}
 use Rattle.unpacker.specs.declared.unpack.Unpacked.{Unpacked}
