@@ -6,10 +6,10 @@ use native.Mathlib.Omega.{arith}
 use lib.ListN.{length}
 use Rattle.lists.specs.Parts.{part}
 use Rattle.lists.proofs.PartLaws.{length-part}
-use Rattle.input.specs.Refills.{AtHand, Refilled}
+use Rattle.input.specs.Refills.{Refilled}
 use Rattle.input.specs.declared.Refill.{Refill}
 use Rattle.input.specs.declared.Refill.the-variants.{Got, End, Full}
-use Rattle.pack.specs.Inputs.{Refills, none, more, Whole, full, ended, Loaded}
+use Rattle.pack.specs.Inputs.{Refills, none, more, full, ended, Loaded}
 use Rattle.pack.specs.declared.Input.the-variants.{Bytes}
 
 -- a space of which the first bytes were read
