@@ -1,4 +1,5 @@
 pub mod Containers
 pub mod Fills
 pub mod Outputs
+pub mod LongLaws
 pub mod Refills

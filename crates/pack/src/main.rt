@@ -2,8 +2,7 @@
 // refused input gives one line instead.
 mod packing;
 
-ghost use lib.ListN.{length};
-ghost use Rattle.pack.specs.Inputs.{Inside};
+ghost use Rattle.pack.specs.Inputs.{Loaded};
 use input::Refill;
 use input::read_more;
 use libc::STDOUT_FILENO;
@@ -21,7 +20,7 @@ pub enum Input {
 
 // Reads standard input until it ends or the space is full.
 fn read_all(space: &mut [u8]) -> Input
-    ensures { λ r. ⌜ Inside (length (now (space .exit))) r ⌝ }
+    ensures { λ r. ⌜ Loaded (now (space .exit)) r ⌝ }
 {
     let mut have = 0;
     while have < space.len() {

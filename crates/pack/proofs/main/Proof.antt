@@ -1,8 +1,7 @@
 -- `pack::main` meets its contract.
 use mathlib.Core.Path.{subst}
 use borrow.Author.Needs.{needs}
-use lib.ListN.{length}
-use Rattle.pack.specs.Inputs.{Inside}
+use Rattle.pack.specs.Inputs.{Loaded}
 use Rattle.pack.proofs.main.Statement.{statement}
 use Rattle.pack.proofs.main.Tie as tie
 
@@ -32,8 +31,8 @@ part-pack-into-start c = search needs
 
 part-pack-into-end : tie.Need-part-pack-into-end
 part-pack-into-end c =
-    let c5 = c .before .before .before .before .before in
-    let h = subst (Inside (length (c5 .read-all .last .0))) (c .before .before .input .given .1) (c5 .read-all .ensures) in search needs
+    let read = c .before .before .before .before .before .read-all in
+    let h = subst (Loaded (read .last .0)) (c .before .before .input .given .1) (read .ensures) .0 in search needs
 
 slice-aggregate-pack-into : tie.Need-slice-aggregate-pack-into
 slice-aggregate-pack-into c = search needs
