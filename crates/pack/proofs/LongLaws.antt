@@ -20,7 +20,7 @@ use Rattle.record.specs.declared.number.Number.the-variants.{Broken, Value}
 use Rattle.record.proofs.NumberTakes.{Takes, takes-number, number-append}
 use Rattle.text.specs.Lines.{refusalLine}
 use Rattle.writer.specs.Filling.{writerWith, callChecks, fillFault}
-use Rattle.writer.specs.Calls.{zeroGrant}
+use Rattle.round_trip.specs.Calls.{zeroGrant}
 use Rattle.pack.specs.Packing.{containersOf, mostContainers, outputOf, listOutput, outputBehind, packOutput}
 
 long-fault : (f : ℕ) (l : List ℕ) → f < 2 → 4096 < length l → fillFault (writerWith f []) l zeroGrant 256 ≡ Faulty TooLong 0
