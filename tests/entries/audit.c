@@ -3,10 +3,10 @@
 #include <stdlib.h>
 #include <string.h>
 
-#include "audit.h"
-#include "layout.h"
-#include "plain.h"
-#include "traffic.h"
+#include "../models/layout.h"
+#include "../models/plain.h"
+#include "../tools/audit_probe.h"
+#include "../tools/traffic.h"
 
 enum { LINE = 65536, BYTES = 65536, RUN = 24, JUDGED = 200000, LAST_CAUSE = 19 };
 

@@ -4,7 +4,7 @@ use std::env;
 use std::path::Path;
 
 fn main() {
-    let root = Path::new(env!("CARGO_MANIFEST_DIR")).join("../..");
+    let root = Path::new(env!("CARGO_MANIFEST_DIR")).join("../../..");
     let libraries = env::var_os("C2C_LIBRARIES").map_or(root.join("target/staticlib"), Into::into);
     println!("cargo:rerun-if-env-changed=C2C_LIBRARIES");
     println!("cargo:rustc-link-search=native={}", libraries.display());

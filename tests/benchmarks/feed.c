@@ -4,9 +4,9 @@
 #include <string.h>
 #include <time.h>
 
-#include "../include/c2c.h"
-#include "plain.h"
-#include "traffic.h"
+#include "../../include/c2c.h"
+#include "../models/plain.h"
+#include "../tools/traffic.h"
 
 enum { LIST = 4096, RECORD = 121, FEED = 3, ROOM = 121, ASKS = 200000, ROUNDS = 15, TURNS = 200, PROFILES = 3 };
 

@@ -3,7 +3,7 @@
 #include <stdlib.h>
 #include <string.h>
 
-#include "../include/c2c.h"
+#include "../../include/c2c.h"
 
 enum { LINE = 8192, BYTES = 4096, FILLER = 0xEE };
 

@@ -4,9 +4,9 @@
 #include <string.h>
 #include <time.h>
 
-#include "layout.h"
-#include "plain.h"
-#include "traffic.h"
+#include "../models/layout.h"
+#include "../models/plain.h"
+#include "../tools/traffic.h"
 
 uint32_t c2c_judge(uint32_t format, const uint8_t *container, size_t container_len);
 

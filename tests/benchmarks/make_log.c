@@ -3,7 +3,7 @@
 #include <stdlib.h>
 #include <string.h>
 
-#include "traffic.h"
+#include "../tools/traffic.h"
 
 static const struct profile silent = {100, 0, 0, 0}, mixed = {25, 25, 25, 50}, dense = {0, 0, 25, 100};
 

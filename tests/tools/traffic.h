@@ -5,7 +5,7 @@
 #include <stddef.h>
 #include <stdint.h>
 
-#include "plain.h"
+#include "../models/plain.h"
 
 enum { LONGEST = 120 };
 

@@ -4,7 +4,7 @@
 #include <stdlib.h>
 #include <string.h>
 
-#include "../include/c2c.h"
+#include "../../include/c2c.h"
 
 /* The bytes of the part that an ask hands out, and byte i of it. */
 size_t c2c_part_length(uint32_t format, size_t response, size_t other, uint32_t run, const uint8_t *responses, size_t responses_len,

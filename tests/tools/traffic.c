@@ -3,7 +3,7 @@
 #include <stdlib.h>
 #include <string.h>
 
-#include "layout.h"
+#include "../models/layout.h"
 #include "traffic.h"
 
 enum { TRIES = 64 };

@@ -4,10 +4,10 @@
 #include <string.h>
 #include <time.h>
 
-#include "audit.h"
-#include "layout.h"
-#include "plain.h"
-#include "traffic.h"
+#include "../models/layout.h"
+#include "../models/plain.h"
+#include "../tools/audit_probe.h"
+#include "../tools/traffic.h"
 
 enum { COUNT = 2000, ROUNDS = 200, PROFILES = 3, WAYS = 4 };
 

@@ -4,7 +4,7 @@
 #include <stdlib.h>
 #include <string.h>
 
-#include "../include/c2c.h"
+#include "../../include/c2c.h"
 
 /* Fills a container; `tail` holds the writer's tail array before and after. */
 uint64_t c2c_fill(uint32_t format, size_t len, uint8_t *tail, size_t tail_len, const uint8_t *grant, size_t grant_len,

@@ -1,8 +1,8 @@
 /* The audit of entries through the static library; 33 numbers and entries as a log frames them, each the number 2 * ticks + direction and
    256 bytes. Another count of numbers, a push that is neither 0 nor 1, and a configuration that is not valid are cause 19 at place 0, with
    no entry accepted, also where there is none. What does not begin with a whole entry is left over: the bytes used are then fewer. */
-#ifndef AUDIT_H
-#define AUDIT_H
+#ifndef AUDIT_PROBE_H
+#define AUDIT_PROBE_H
 
 #include <stddef.h>
 #include <stdint.h>

@@ -95,7 +95,7 @@ fn translate(file: &Path, name: &str) -> String {
 }
 
 fn main() {
-    let own = Path::new(env!("CARGO_MANIFEST_DIR")).join("../../crates");
+    let own = Path::new(env!("CARGO_MANIFEST_DIR")).join("../../../crates");
     let crates = env::var_os("C2C_CRATES").map_or(own, PathBuf::from);
     println!("cargo:rerun-if-env-changed=C2C_CRATES");
     let modules = CRATES.map(|name| {

@@ -59,7 +59,7 @@ struct Options {
 
 /// The options of the command line.
 fn options() -> Options {
-    let mut options = Options { seed: 1, times: 1, data: "tests/data".into(), programs: None, audit: None };
+    let mut options = Options { seed: 1, times: 1, data: "tests/vectors".into(), programs: None, audit: None };
     let mut words = std::env::args().skip(1);
     while let Some(word) = words.next() {
         let mut value = || words.next().unwrap_or_else(|| panic!("{word} needs a value"));
