@@ -1,4 +1,4 @@
-/* Audits every log of a vector file and random traffic, and compares with the lines of the file and with plain C. */
+/* Audits every log of a vector file and random traffic, and compares with the verdicts of the file and with plain C. */
 #include <stdio.h>
 #include <stdlib.h>
 #include <string.h>
@@ -7,8 +7,11 @@
 #include "../models/plain.h"
 #include "../tools/audit_probe.h"
 #include "../tools/traffic.h"
+#include "../tools/vectors.h"
 
-enum { LINE = 65536, BYTES = 65536, RUN = 24, JUDGED = 200000, LAST_CAUSE = 19 };
+enum { BYTES = 65536, RUN = 24, JUDGED = 200000, LAST_CAUSE = 19 };
+
+static const char heads[] = "name\tverdict\tlog";
 
 /* The report of numbers that are no configuration, or of no direction or pool. */
 static const uint64_t REFUSED = (uint64_t)19 << 48;
@@ -72,26 +75,6 @@ static struct plain_run compare_plain(const char *name, const struct input *in) 
     return run;
 }
 
-/* The bytes of a hex field, where (n) is n zero bytes and `-` is no byte. */
-static size_t decode(const char *text, uint8_t *out) {
-    size_t n = 0;
-    int used = 0;
-    for (; *text != '\0' && *text != '-'; text += used) {
-        unsigned value = 0, zeros = 0;
-        int run = sscanf(text, "(%u)%n", &zeros, &used) == 1;
-        if ((!run && sscanf(text, "%2x%n", &value, &used) != 1) || n + zeros + 1 > BYTES) {
-            fprintf(stderr, "bad hex field\n");
-            exit(2);
-        }
-        if (run)
-            memset(out + n, 0, zeros);
-        else
-            out[n] = (uint8_t)value;
-        n += run ? zeros : 1;
-    }
-    return n;
-}
-
 /* Reads a number in seven-bit groups; answers the bytes it takes, 0 if it is broken. */
 static size_t read_number(const uint8_t *bytes, size_t len, uint32_t *value) {
     uint64_t sum = 0;
@@ -117,24 +100,23 @@ static size_t read_numbers(const uint8_t *log, size_t len, struct input *in) {
     return at;
 }
 
-/* Runs one log against its line. */
-static void run_log(const char *name, const char *line, const char *bytes) {
+/* Runs the log that was read against its verdict. */
+static void run_log(const struct vectors *v) {
     static uint8_t log[BYTES];
     static struct input in;
+    const char *name = v->field[0], *verdict = v->field[1];
     unsigned count = 0, cause = 0;
     unsigned long long place = 0;
-    size_t len = decode(bytes, log), used = read_numbers(log, len, &in);
-    if (sscanf(line, "accepted %u", &count) != 1 && sscanf(line, "refused %u %u %llu", &count, &cause, &place) != 3) {
-        fprintf(stderr, "bad line of log %s\n", name);
-        exit(2);
-    }
+    size_t len = vectors_bytes(v, 2, log, BYTES), used = read_numbers(log, len, &in);
+    if (sscanf(verdict, "accepted %u", &count) != 1 && sscanf(verdict, "refused %u %u %llu", &count, &cause, &place) != 3)
+        vectors_fail(v, "a field that is no verdict");
     in.len = len - used;
     memcpy(in.entries, log + used, in.len);
     struct plain_run run = compare_plain(name, &in);
     if (in.numbers_len < NUMBERS) {
         /* a broken number of the configuration is 17 in the log, but the numbers before it are too few and so 19 */
         if (count != 0 || (cause != 17 && cause != 19))
-            differ(name, "the line's cause of a broken configuration", cause, 17);
+            differ(name, "the verdict's cause of a broken configuration", cause, 17);
         cause = 19;
         place = 0;
     } else if (cause == 17) {
@@ -151,25 +133,11 @@ static void run_log(const char *name, const char *line, const char *bytes) {
 
 /* Runs every log of a file; answers how many there are. */
 static unsigned run_logs(const char *path) {
-    static char text[LINE];
-    unsigned count = 0;
-    FILE *in = fopen(path, "r");
-    if (in == NULL) {
-        fprintf(stderr, "cannot read %s\n", path);
-        exit(2);
-    }
-    while (fgets(text, sizeof text, in) != NULL) {
-        text[strcspn(text, "\n")] = '\0';
-        char *name = strtok(text, "\t"), *line = strtok(NULL, "\t"), *bytes = strtok(NULL, "\t");
-        count++;
-        if (bytes == NULL) {
-            fprintf(stderr, "line %u lacks a field\n", count);
-            exit(2);
-        }
-        run_log(name, line, bytes);
-    }
-    fclose(in);
-    return count;
+    static struct vectors vectors;
+    vectors_open(&vectors, path, heads);
+    while (vectors_next(&vectors))
+        run_log(&vectors);
+    return vectors.count;
 }
 
 /* Draws a format and receivers, with few or many credits, each with and without push and of 1, 2, 8 or any planes. */

@@ -1,10 +1,9 @@
-/* Runs every line of a vector file through c2c_feed, and some calls that no line holds, and compares code, feed, every byte of the room and
+/* Runs every vector of a file through c2c_feed, and some calls that no vector holds, and compares code, feed, every byte of the room and
    the part that the feeder hands out. */
-#include <stdio.h>
-#include <stdlib.h>
 #include <string.h>
 
 #include "../../include/c2c.h"
+#include "../tools/vectors.h"
 
 /* The bytes of the part that an ask hands out, and byte i of it. */
 size_t c2c_part_length(uint32_t format, size_t response, size_t other, uint32_t run, const uint8_t *responses, size_t responses_len,
@@ -12,7 +11,9 @@ size_t c2c_part_length(uint32_t format, size_t response, size_t other, uint32_t 
 uint8_t c2c_part_byte(size_t i, uint32_t format, size_t response, size_t other, uint32_t run, const uint8_t *responses,
                       size_t responses_len, const uint8_t *others, size_t others_len);
 
-enum { LINE = 32768, LIST = 8192, FIELDS = 11, NUMBERS = 3, FILLER = 0xEE };
+enum { LIST = 8192, NUMBERS = 3 };
+
+static const char heads[] = "format\tresponses\tothers\tpositions\trun\tlist\tcause\tplace\trecord\tnext positions\tnext run";
 
 /* The longest record, more room than it needs, and a feed that is too long. */
 enum { RECORD = 121, ROOM = 256, FEED = 4 };
@@ -31,76 +32,30 @@ struct vector {
     size_t record_len;
 };
 
-/* The bytes of a hex field, where (n) is n zero bytes and `-` is no byte. */
-static size_t decode(const char *text, uint8_t *out, size_t most) {
-    size_t n = 0;
-    int used = 0;
-    for (; *text != '\0' && *text != '-'; text += used) {
-        unsigned value = 0, zeros = 0;
-        int run = sscanf(text, "(%u)%n", &zeros, &used) == 1;
-        if ((!run && sscanf(text, "%2x%n", &value, &used) != 1) || n + (run ? zeros : 1) > most) {
-            fprintf(stderr, "bad hex field\n");
-            exit(2);
-        }
-        if (run)
-            memset(out + n, 0, zeros);
-        else
-            out[n] = (uint8_t)value;
-        n += run ? zeros : 1;
-    }
-    return n;
-}
-
 /* The three numbers of a feed, from the fields of its positions and its run. */
-static void decode_feed(const char *positions, const char *run, uint32_t feed[FEED]) {
+static void parse_feed(const struct vectors *in, unsigned positions, unsigned run, uint32_t feed[FEED]) {
     unsigned response, other;
-    if (sscanf(positions, "%u,%u", &response, &other) != 2) {
-        fprintf(stderr, "bad positions\n");
-        exit(2);
-    }
+    if (sscanf(in->field[positions], "%u,%u", &response, &other) != 2)
+        vectors_fail(in, "a field that is not two positions");
     feed[0] = response;
     feed[1] = other;
-    feed[2] = (uint32_t)strtoul(run, NULL, 10);
+    feed[2] = (uint32_t)vectors_number(in, run);
 }
 
-/* Splits a line at its tabs. */
-static void split(char *line, unsigned number, char *field[FIELDS]) {
-    line[strcspn(line, "\n")] = '\0';
-    for (int k = 0; k < FIELDS; k++) {
-        field[k] = strtok(k == 0 ? line : NULL, "\t");
-        if (field[k] == NULL) {
-            fprintf(stderr, "line %u has %d fields\n", number, k);
-            exit(2);
-        }
-    }
-}
-
-/* The vector of a line, whose list is `-` for neither, 0 for the responses and 1 for the others. */
-static void parse(char *line, unsigned number, struct vector *v) {
-    char *field[FIELDS];
-    split(line, number, field);
+/* The vector that was read, whose list is `-` for neither, 0 for the responses and 1 for the others. */
+static void parse(const struct vectors *in, struct vector *v) {
     memset(v, 0, sizeof *v);
-    v->format = (uint32_t)strtoul(field[0], NULL, 10);
-    v->responses_len = decode(field[1], v->responses, LIST);
-    v->others_len = decode(field[2], v->others, LIST);
-    decode_feed(field[3], field[4], v->feed);
-    uint32_t list = field[5][0] == '-' ? 0 : 1 + (uint32_t)strtoul(field[5], NULL, 10);
-    uint32_t cause = (uint32_t)strtoul(field[6], NULL, 10), place = (uint32_t)strtoul(field[7], NULL, 10);
-    v->record_len = decode(field[8], v->record, ROOM);
-    decode_feed(field[9], field[10], v->feed_wanted);
+    v->format = (uint32_t)vectors_number(in, 0);
+    v->responses_len = vectors_bytes(in, 1, v->responses, LIST);
+    v->others_len = vectors_bytes(in, 2, v->others, LIST);
+    parse_feed(in, 3, 4, v->feed);
+    uint32_t list = in->field[5][0] == '-' ? 0 : 1 + (uint32_t)vectors_number(in, 5);
+    uint32_t cause = (uint32_t)vectors_number(in, 6), place = (uint32_t)vectors_number(in, 7);
+    v->record_len = vectors_bytes(in, 8, v->record, ROOM);
+    parse_feed(in, 9, 10, v->feed_wanted);
     v->feed_len = NUMBERS;
     v->room_len = ROOM;
     v->code = cause * CAUSE + list * WAITING + (cause == 0 ? (uint32_t)v->record_len : place);
-}
-
-/* Whether the room holds the record at its front and the filler behind it. */
-static int holds(const uint8_t *room, const uint8_t *record, size_t record_len) {
-    if (memcmp(room, record, record_len) != 0)
-        return 0;
-    for (size_t i = record_len; i < ROOM; i++)
-        if (room[i] != FILLER)
-            return 0;
-    return 1;
 }
 
 /* Whether the part that an ask hands out is a record. */
@@ -120,13 +75,13 @@ static int run(struct vector *v, const char *name, unsigned number) {
     memset(room, FILLER, ROOM);
     int handed = is_handed(v, v->record, v->record_len);
     uint32_t code = c2c_feed(v->format, v->feed, v->feed_len, v->responses, v->responses_len, v->others, v->others_len, room, v->room_len);
-    if (code == v->code && memcmp(v->feed, v->feed_wanted, sizeof v->feed) == 0 && holds(room, v->record, v->record_len) && handed)
+    if (code == v->code && memcmp(v->feed, v->feed_wanted, sizeof v->feed) == 0 && holds(room, ROOM, v->record, v->record_len) && handed)
         return 1;
     printf("%s %u: code %u, wanted %u, feed %u %u %u\n", name, number, code, v->code, v->feed[0], v->feed[1], v->feed[2]);
     return 0;
 }
 
-/* Calls that no line holds: a feed and room of some length, a response list of so many zeros, and the code. */
+/* Calls that no vector holds: a feed and room of some length, a response list of so many zeros, and the code. */
 static const struct {
     size_t feed_len, room_len, zeros;
     uint32_t code;
@@ -140,7 +95,7 @@ static const struct {
     {NUMBERS, RECORD, 4096, 17 * CAUSE + WAITING},
 };
 
-/* Runs the calls that no line holds; answers the differences. */
+/* Runs the calls that no vector holds; answers the differences. */
 static unsigned run_refused(struct vector *v) {
     unsigned differences = 0;
     for (unsigned i = 0; i < sizeof refused / sizeof refused[0]; i++) {
@@ -168,21 +123,20 @@ static int run_longest(struct vector *v) {
 }
 
 int main(int argc, char **argv) {
-    static char line[LINE];
+    static struct vectors vectors;
     static struct vector vector;
-    unsigned count = 0, differences = 0;
-    FILE *in = argc == 2 ? fopen(argv[1], "r") : NULL;
-    if (in == NULL) {
+    unsigned differences = 0;
+    if (argc != 2) {
         fprintf(stderr, "usage: feeds VECTORS\n");
         return 2;
     }
-    while (fgets(line, sizeof line, in) != NULL) {
-        parse(line, ++count, &vector);
-        differences += !run(&vector, "line", count);
+    vectors_open(&vectors, argv[1], heads);
+    while (vectors_next(&vectors)) {
+        parse(&vectors, &vector);
+        differences += !run(&vector, "vector", vectors.count);
     }
-    fclose(in);
     differences += run_refused(&vector);
     differences += !run_longest(&vector);
-    printf("feeds: %u vectors, %u differences\n", count, differences);
-    return count > 0 && differences == 0 ? 0 : 1;
+    printf("feeds: %u vectors, %u differences\n", vectors.count, differences);
+    return vectors.count > 0 && differences == 0 ? 0 : 1;
 }

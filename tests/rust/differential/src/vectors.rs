@@ -20,12 +20,18 @@ pub struct Outcome {
     pub differences: usize,
 }
 
-/// Runs a function over every line's fields; it says whether they agree, or nothing if the line is left out.
-fn each_line(path: &str, agrees: impl Fn(&[&str]) -> Option<bool>) -> Outcome {
+/// Runs a function over the fields of every line behind the column heads, which must be these; it says whether they agree, or nothing if the
+/// line is left out.
+fn each_line(path: &str, heads: &[&str], agrees: impl Fn(&[&str]) -> Option<bool>) -> Outcome {
     let text = fs::read_to_string(path).unwrap_or_else(|error| panic!("{path}: {error}"));
     let mut outcome = Outcome::default();
     for (n, line) in text.lines().enumerate() {
         let fields: Vec<&str> = line.split('\t').collect();
+        if n == 0 {
+            assert_eq!(fields, heads, "{path}: other column heads");
+            continue;
+        }
+        assert_eq!(fields.len(), heads.len(), "{path}, line {}: not a field for each column", n + 1);
         match agrees(&fields) {
             None => outcome.left += 1,
             Some(true) => outcome.run += 1,
@@ -39,9 +45,10 @@ fn each_line(path: &str, agrees: impl Fn(&[&str]) -> Option<bool>) -> Outcome {
     outcome
 }
 
-/// Vectors of the host's check: format, container, room, answer, records.
+/// Vectors of the host's check.
 pub fn check_lines(path: &str) -> Outcome {
-    each_line(path, |fields| {
+    let heads = ["format", "container", "room", "answer", "records"];
+    each_line(path, &heads, |fields| {
         let mut room = vec![FILLER; number(fields[2])];
         let mut wanted = room.clone();
         let records = bytes(fields[4]);
@@ -51,9 +58,10 @@ pub fn check_lines(path: &str) -> Outcome {
     })
 }
 
-/// Vectors of the fill: format, tail, grant, list, cause, place, used, next tail, container.
+/// Vectors of the fill.
 pub fn write_lines(path: &str) -> Outcome {
-    each_line(path, |fields| {
+    let heads = ["format", "tail", "grant", "list", "cause", "place", "used", "next tail", "container"];
+    each_line(path, &heads, |fields| {
         let tail = Part::of(&bytes(fields[1]));
         let answer = fill(number(fields[0]) as u32, &tail, grant(fields[2]), &bytes(fields[3]), CONTAINER);
         let (cause, place, used) = (number(fields[4]), number(fields[5]), number(fields[6]));
@@ -67,9 +75,22 @@ pub fn write_lines(path: &str) -> Outcome {
     })
 }
 
-/// Vectors of the feeder: format, responses, others, positions, run, list, cause, place, record, next positions, next run.
+/// Vectors of the feeder.
 pub fn feed_lines(path: &str) -> Outcome {
-    each_line(path, |fields| {
+    let heads = [
+        "format",
+        "responses",
+        "others",
+        "positions",
+        "run",
+        "list",
+        "cause",
+        "place",
+        "record",
+        "next positions",
+        "next run",
+    ];
+    each_line(path, &heads, |fields| {
         let (responses, others, record) = (long_bytes(fields[1])?, long_bytes(fields[2])?, long_bytes(fields[8])?);
         let (now, next) = (feed(fields[3], fields[4]), feed(fields[9], fields[10]));
         let (list, cause) = (waiting(fields[5]), number(fields[6]) as u32);
@@ -80,10 +101,10 @@ pub fn feed_lines(path: &str) -> Outcome {
     })
 }
 
-/// Vectors of whole logs: name, line, bytes.
+/// Vectors of whole logs.
 pub fn log_lines(path: &str) -> Outcome {
-    each_line(path, |fields| {
-        let log = long_bytes(fields.get(2).copied().unwrap_or(""))?;
+    each_line(path, &["name", "verdict", "log"], |fields| {
+        let log = long_bytes(fields[2])?;
         let answer = verdict(&log).to_string();
         if answer != fields[1] {
             println!("{}: the model says {answer}, wanted {}", fields[0], fields[1]);
