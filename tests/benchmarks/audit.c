@@ -2,12 +2,12 @@
 #include <stdio.h>
 #include <stdlib.h>
 #include <string.h>
-#include <time.h>
 
 #include "../models/layout.h"
 #include "../models/plain.h"
 #include "../tools/audit_probe.h"
 #include "../tools/traffic.h"
+#include "clock.h"
 
 enum { COUNT = 2000, ROUNDS = 200, PROFILES = 3, WAYS = 4 };
 
@@ -49,7 +49,7 @@ static void make_all(void) {
     for (unsigned f = 0; f < 2; f++) {
         numbers[f][0] = f;
         describe_receiver(8, 1, 1023, numbers[f] + 1);
-        describe_receiver(2, 1, 1023, numbers[f] + 17);
+        describe_receiver(2, 1, 1023, numbers[f] + 1 + RECEIVER);
         for (unsigned p = 0; p < PROFILES; p++)
             make_entries(p, f);
     }
@@ -81,12 +81,6 @@ static void check_accepted(void) {
                 }
         }
     printf("all %u entries of every profile and format are accepted\n", COUNT);
-}
-
-static double seconds(void) {
-    struct timespec t;
-    clock_gettime(CLOCK_MONOTONIC, &t);
-    return (double)t.tv_sec + 1e-9 * (double)t.tv_nsec;
 }
 
 /* ns per entry of one run over a profile. */

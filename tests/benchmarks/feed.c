@@ -2,13 +2,14 @@
 #include <stdio.h>
 #include <stdlib.h>
 #include <string.h>
-#include <time.h>
 
 #include "../../include/c2c.h"
+#include "../models/layout.h"
 #include "../models/plain.h"
 #include "../tools/traffic.h"
+#include "clock.h"
 
-enum { LIST = 4096, RECORD = 121, FEED = 3, ROOM = 121, ASKS = 200000, ROUNDS = 15, TURNS = 200, PROFILES = 3 };
+enum { ASKS = 200000, ROUNDS = 15, TURNS = 200, PROFILES = 3 };
 
 typedef uint32_t feeding(uint32_t, uint32_t *, size_t, const uint8_t *, size_t, const uint8_t *, size_t, uint8_t *, size_t);
 
@@ -27,13 +28,13 @@ static const char *const profile_name[PROFILES] = {"responses", "others", "both"
 
 /* Fills a list with responses, or with messages of every other kind. */
 static void fill(struct list *list, int responses) {
-    uint8_t message[RECORD];
+    uint8_t message[LARGEST];
     for (list->len = 0; list->len + RECORD <= LIST;) {
-        unsigned type = responses ? 3 + draw(2) : 5 + draw(6);
-        unsigned size = make_message(type, draw(5), message);
-        list->bytes[list->len] = (uint8_t)size;
-        memcpy(list->bytes + list->len + 1, message, size);
-        list->len += 1 + size;
+        unsigned type = responses ? RESP + draw(2) : SNOOP + draw(6);
+        unsigned size = make_message(type, draw(OPS), message);
+        list->len += plain_put_number(size, list->bytes + list->len);
+        memcpy(list->bytes + list->len, message, size);
+        list->len += size;
     }
 }
 
@@ -46,17 +47,17 @@ static void make_lists(unsigned profile, struct lists *lists) {
         fill(&lists->others, 0);
 }
 
-static uint32_t ask(feeding *feed, const struct lists *l, uint32_t numbers[FEED], uint8_t room[ROOM]) {
-    return feed(0, numbers, FEED, l->responses.bytes, l->responses.len, l->others.bytes, l->others.len, room, ROOM);
+static uint32_t ask(feeding *feed, const struct lists *l, uint32_t numbers[FEED], uint8_t room[RECORD]) {
+    return feed(0, numbers, FEED, l->responses.bytes, l->responses.len, l->others.bytes, l->others.len, room, RECORD);
 }
 
 /* Compares an ask from one feed; answers its code. */
 static uint32_t compare(const struct lists *l, uint32_t numbers[FEED]) {
-    uint8_t room[2][ROOM] = {{0}, {0}};
+    uint8_t room[2][RECORD] = {{0}, {0}};
     uint32_t next[FEED];
     memcpy(next, numbers, sizeof next);
     uint32_t ours = ask(c2c_feed, l, numbers, room[0]), plain = ask(plain_feed, l, next, room[1]);
-    if (ours == plain && memcmp(numbers, next, sizeof next) == 0 && memcmp(room[0], room[1], ROOM) == 0)
+    if (ours == plain && memcmp(numbers, next, sizeof next) == 0 && memcmp(room[0], room[1], RECORD) == 0)
         return ours;
     printf("difference: ours %08x, plain %08x\n", (unsigned)ours, (unsigned)plain);
     exit(1);
@@ -77,22 +78,16 @@ static void check_answers(void) {
         make_lists(draw(PROFILES), &lists);
         damage_list(&lists.responses);
         damage_list(&lists.others);
-        for (; code != 0 && code < 1u << 24; asks++)
+        for (; code != 0 && code < CAUSE; asks++)
             code = compare(&lists, numbers);
         refused += code != 0;
     }
     printf("agree on %u asks, %u of them refused\n", asks, refused);
 }
 
-static double seconds(void) {
-    struct timespec t;
-    clock_gettime(CLOCK_MONOTONIC, &t);
-    return (double)t.tv_sec + 1e-9 * (double)t.tv_nsec;
-}
-
 /* ns per ask of turns over the lists, from the fresh feed until both are empty. */
 static double time_turns(feeding *feed, const struct lists *l) {
-    uint8_t room[ROOM];
+    uint8_t room[RECORD];
     unsigned asks = 0;
     double began = seconds();
     for (unsigned t = 0; t < TURNS; t++) {

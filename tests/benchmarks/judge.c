@@ -2,41 +2,26 @@
 #include <stdio.h>
 #include <stdlib.h>
 #include <string.h>
-#include <time.h>
 
 #include "../models/layout.h"
 #include "../models/plain.h"
+#include "../tools/probe.h"
 #include "../tools/traffic.h"
-
-uint32_t c2c_judge(uint32_t format, const uint8_t *container, size_t container_len);
+#include "clock.h"
 
 enum { COUNT = 512, DAMAGED = 200000, ROUNDS = 15, TURNS = 20, PROFILES = 4 };
 
 static const char *const profile_name[PROFILES] = {"idle", "mixed", "dense", "dense, short"};
 static uint8_t containers[PROFILES][2][COUNT][CONTAINER];
 
-/* What stands in the present group, and whether the rest of it stays empty. */
-struct group {
-    unsigned miscs, responses, closed;
-};
-
-/* Whether a message may start in granule g beside what stands in its group. */
-static int suits(unsigned width, unsigned g, unsigned type, unsigned op, const struct group *group) {
-    if (type == 10 && (group->miscs > 0 || (op == 0 && g > 0)))
-        return 0;
-    if ((type == 3 && group->responses > 3) || (type == 4 && group->responses > 2))
-        return 0;
-    return width == 20 || type == 3 || (type == 10 && op != 4 && (width == 16 || op != 2));
-}
-
 /* Draws a message that may start in granule g, one over a granule with a chance of `longer` in 100; answers whether there is one. */
-static int draw_message(unsigned width, unsigned g, unsigned longer, const struct group *group, unsigned *type, unsigned *op) {
+static int draw_message(unsigned format, unsigned g, unsigned longer, const struct group *group, unsigned *type, unsigned *op) {
     do {
-        *type = draw(100) < longer ? (draw(2) ? 2 : 6 + draw(4)) : draw(4) ? 3 + draw(3) : draw(2) ? 1 : 10;
-        *op = draw(5);
-        if (suits(width, g, *type, *op, group))
+        *type = draw_type(longer);
+        *op = draw(OPS);
+        if (suits(format, g, *type, *op, group))
             return 1;
-    } while (width == 20 || group->miscs == 0 || group->responses < 4);
+    } while (granule_size(format, g) == 20 || group->miscs < GROUP_MISCS || group->responses < GROUP_RESPONSES);
     return 0;
 }
 
@@ -44,7 +29,7 @@ static int draw_message(unsigned width, unsigned g, unsigned longer, const struc
 static void write_header(unsigned format, unsigned starts, unsigned activation, uint8_t *c) {
     c[header_place(format, 0)] = (uint8_t)starts;
     c[header_place(format, 1)] = (uint8_t)(starts >> 8);
-    c[header_place(format, 2)] = (uint8_t)(draw(2) ? 1 : 2 * draw(8));
+    c[header_place(format, 2)] = draw_form();
     for (unsigned i = 3; i < 7 && !activation; i++)
         c[header_place(format, i)] = (uint8_t)draw(256);
 }
@@ -52,15 +37,17 @@ static void write_header(unsigned format, unsigned starts, unsigned activation, 
 /* Fills a container by document 01's rules from granule 0 upwards, each granule left empty, with the rest of its group,
    with a chance of `rest` in 100. */
 static void fill(unsigned format, unsigned rest, unsigned longer, uint8_t *c) {
-    uint8_t message[120] = {0};
-    struct group group = {0, 0, 0};
-    unsigned owed = 0, size = 0, starts = 0, activation = 0, type, op;
+    uint8_t message[LARGEST] = {0};
+    struct group group = {0, 0};
+    unsigned owed = 0, size = 0, starts = 0, activation = 0, closed = 0, type, op;
     memset(c, 0, CONTAINER);
     for (unsigned g = 0; g < GRANULES; g++) {
         unsigned width = granule_size(format, g);
         uint8_t *p = c + granule_start(g);
-        if (g % 3 == 0)
-            memset(&group, 0, sizeof group);
+        if (g % 3 == 0) {
+            group = (struct group){0, 0};
+            closed = 0;
+        }
         if (owed > 0 && width == 20) {
             unsigned n = owed < 20 ? owed : 20;
             memcpy(p, message + size - owed, n);
@@ -68,13 +55,11 @@ static void fill(unsigned format, unsigned rest, unsigned longer, uint8_t *c) {
             continue;
         }
         /* a granule passed over by a longer message is the last of its group */
-        if (group.closed || owed > 0 || draw(100) < rest || !draw_message(width, g, longer, &group, &type, &op)) {
-            group.closed = 1;
+        closed = closed || owed > 0 || draw(100) < rest || !draw_message(format, g, longer, &group, &type, &op);
+        if (closed)
             continue;
-        }
-        group.miscs += type == 10;
-        group.responses += type == 3 ? 1 : type == 4 ? 2 : 0;
-        activation |= type == 10 && op == 1;
+        join(&group, type);
+        activation |= type == MISC_U && op == ACTIVATION;
         size = make_message(type, op, message);
         owed = size > 20 ? size - 20 : 0;
         memcpy(p, message, size < 20 ? size : 20);
@@ -132,12 +117,6 @@ static void check_answers(void) {
         if (seen[i] > 0)
             printf(" %u (%u)", i, seen[i]);
     printf("\n");
-}
-
-static double seconds(void) {
-    struct timespec t;
-    clock_gettime(CLOCK_MONOTONIC, &t);
-    return (double)t.tv_sec + 1e-9 * (double)t.tv_nsec;
 }
 
 typedef uint32_t judging(uint32_t, const uint8_t *, size_t);

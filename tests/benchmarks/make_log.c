@@ -3,15 +3,15 @@
 #include <stdlib.h>
 #include <string.h>
 
+#include "../models/plain.h"
 #include "../tools/traffic.h"
 
 static const struct profile silent = {100, 0, 0, 0}, mixed = {25, 25, 25, 50}, dense = {0, 0, 25, 100};
 
-/* Writes a number in seven-bit groups, low group first. */
-static void put_number(uint32_t n) {
-    for (; n >= 128; n /= 128)
-        putchar((int)(128 + n % 128));
-    putchar((int)n);
+/* Writes a number. */
+static void write_number(uint32_t number) {
+    uint8_t bytes[5];
+    fwrite(bytes, 1, plain_put_number(number, bytes), stdout);
 }
 
 /* The profile of the next container: 97 in 100 of an idle log start nothing. */
@@ -22,7 +22,7 @@ static const struct profile *next_profile(const char *name) {
 }
 
 int main(int argc, char **argv) {
-    static uint8_t container[256];
+    static uint8_t container[CONTAINER];
     static struct traffic traffic;
     uint32_t numbers[NUMBERS];
     if (argc != 4) {
@@ -31,14 +31,14 @@ int main(int argc, char **argv) {
     }
     numbers[0] = (uint32_t)strtoul(argv[2], NULL, 10);
     describe_receiver(8, 1, 1023, numbers + 1);
-    describe_receiver(8, 1, 1023, numbers + 17);
+    describe_receiver(8, 1, 1023, numbers + 1 + RECEIVER);
     for (unsigned i = 0; i < NUMBERS; i++)
-        put_number(numbers[i]);
+        write_number(numbers[i]);
     traffic_open(&traffic, numbers);
     for (unsigned long i = 0, n = strtoul(argv[3], NULL, 10); i < n; i++) {
         unsigned direction = (unsigned)(i % 2);
         traffic_next(&traffic, direction, next_profile(argv[1]), container);
-        put_number(direction);
+        write_number(direction);
         fwrite(container, 1, sizeof container, stdout);
     }
     return 0;

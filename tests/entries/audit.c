@@ -1,6 +1,5 @@
 /* Audits every log of a vector file and random traffic, and compares with the verdicts of the file and with plain C. */
 #include <stdio.h>
-#include <stdlib.h>
 #include <string.h>
 
 #include "../models/layout.h"
@@ -75,26 +74,15 @@ static struct plain_run compare_plain(const char *name, const struct input *in) 
     return run;
 }
 
-/* Reads a number in seven-bit groups; answers the bytes it takes, 0 if it is broken. */
-static size_t read_number(const uint8_t *bytes, size_t len, uint32_t *value) {
-    uint64_t sum = 0;
-    for (size_t i = 0; i < 5 && i < len; i++) {
-        sum += (uint64_t)(bytes[i] & 127) << 7 * i;
-        if (bytes[i] < 128) {
-            *value = (uint32_t)sum;
-            return sum > 0xFFFFFFFFu || (i > 0 && bytes[i] == 0) ? 0 : i + 1;
-        }
-    }
-    return 0;
-}
-
 /* Reads the numbers of a log's configuration, up to one that is broken; answers the bytes they take. */
 static size_t read_numbers(const uint8_t *log, size_t len, struct input *in) {
     size_t at = 0;
     for (in->numbers_len = 0; in->numbers_len < NUMBERS; in->numbers_len++) {
-        size_t used = read_number(log + at, len - at, &in->numbers[in->numbers_len]);
+        uint64_t number;
+        size_t used = plain_read_number(log + at, len - at, &number);
         if (used == 0)
             break;
+        in->numbers[in->numbers_len] = (uint32_t)number;
         at += used;
     }
     return at;
@@ -145,21 +133,12 @@ static void draw_numbers(uint32_t numbers[NUMBERS]) {
     static const unsigned most[4] = {2, 6, 300, 1023};
     numbers[0] = draw(2);
     for (unsigned d = 0; d < 2; d++) {
-        uint32_t *n = numbers + 1 + 16 * d;
-        unsigned planes[4] = {1, 2, 8, 1 + draw(8)}, capacity = most[draw(4)], uneven = draw(2);
+        uint32_t *n = numbers + 1 + RECEIVER * d;
+        unsigned planes[4] = {1, 2, PLANES, 1 + draw(PLANES)}, capacity = most[draw(4)], uneven = draw(2);
         describe_receiver(planes[draw(4)], draw(4) > 0, capacity, n);
         for (unsigned p = 0; p < POOLS && uneven; p++)
             n[2 + p] = draw(n[2 + p] + 1);
     }
-}
-
-/* Puts a number in seven-bit groups, low group first; answers its bytes. */
-static size_t put_number(uint32_t number, uint8_t *out) {
-    size_t n = 0;
-    for (; number >= 128; number /= 128)
-        out[n++] = (uint8_t)(128 + number % 128);
-    out[n] = (uint8_t)number;
-    return n + 1;
 }
 
 /* Makes a run of entries that are accepted, most of them at tick 0. */
@@ -173,7 +152,7 @@ static void draw_entries(struct input *in) {
     for (unsigned i = 0; i < RUN; i++) {
         unsigned direction = draw(2);
         in->starts[i] = in->len;
-        in->len += put_number(2 * ticks[draw(8)] + direction, in->entries + in->len);
+        in->len += plain_put_number(2 * ticks[draw(8)] + direction, in->entries + in->len);
         traffic_next(&t, direction, profile, in->entries + in->len);
         in->len += CONTAINER;
     }
@@ -202,7 +181,7 @@ static void damage_entry(struct input *in, unsigned i) {
 /* Damages one number of a configuration, often a push. */
 static void damage_numbers(uint32_t numbers[NUMBERS]) {
     static const uint32_t values[6] = {0, 1, 2, 9, 1023, 1024};
-    unsigned at = draw(4) ? draw(NUMBERS) : 2 + 16 * draw(2);
+    unsigned at = draw(4) ? draw(NUMBERS) : 2 + RECEIVER * draw(2);
     numbers[at] = draw(8) ? values[draw(6)] : 0xFFFFFFFFu - draw(3);
 }
 

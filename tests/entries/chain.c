@@ -5,17 +5,11 @@
 #include <string.h>
 
 #include "../../include/c2c.h"
+#include "../models/layout.h"
+#include "../tools/probe.h"
 
-/* Fills a container; `tail` holds the writer's tail array before and after. */
-uint64_t c2c_fill(uint32_t format, size_t len, uint8_t *tail, size_t tail_len, const uint8_t *grant, size_t grant_len,
-                  const uint8_t *list, size_t list_len, uint8_t *container, size_t container_len);
-
-/* The most bytes of a list, the pending bytes that are enough for a container, and the lengths of what feeder and writer are lent. */
-enum { LIST = 4096, ENOUGH = 240, NUMBERS = 3, TAIL = 100, GRANT = 6, CONTAINER = 256 };
-
-/* The types of the messages, and the sizes by type. */
-enum { REQ_L = 2, RESP = 3, RESP2 = 4, WR_REQ_DATA_S = 8 };
-static const uint8_t sizes[] = {[REQ_L] = 40, [RESP] = 10, [RESP2] = 20, [WR_REQ_DATA_S] = 100};
+/* The pending bytes that are enough for a container, and the numbers of a feed. */
+enum { ENOUGH = 240, NUMBERS = 3 };
 
 /* The messages in the order of their arrival, each with the number of records that are handed out before it arrives. */
 static const struct message {
@@ -37,7 +31,7 @@ struct list {
 struct chain {
     uint32_t format, feed[NUMBERS];
     struct list responses, others, pending;
-    uint8_t tail[TAIL];
+    uint8_t tail[PART];
     size_t tail_len;
     unsigned arrived, handed;
 };
@@ -50,7 +44,7 @@ static void fail(const char *who, unsigned cause, unsigned list, unsigned place)
 
 /* Appends a message as a record: its size, its type, a zero, and its number in every other byte. */
 static void append(struct list *list, const struct message *m) {
-    uint8_t *record = list->bytes + list->len, size = sizes[m->type];
+    uint8_t *record = list->bytes + list->len, size = (uint8_t)message_size(m->type, 0);
     if (list->len + 1 + size > LIST) {
         fprintf(stderr, "chain: a list is full\n");
         exit(1);
@@ -66,7 +60,7 @@ static void append(struct list *list, const struct message *m) {
 static void arrive(struct chain *c) {
     while (c->arrived < sizeof messages / sizeof messages[0] && messages[c->arrived].before <= c->handed) {
         const struct message *m = &messages[c->arrived++];
-        append(m->type == RESP || m->type == RESP2 ? &c->responses : &c->others, m);
+        append(count_responses(m->type) > 0 ? &c->responses : &c->others, m);
     }
 }
 
@@ -86,7 +80,7 @@ static void send_container(struct chain *c) {
     static const uint8_t grant[GRANT];
     uint8_t container[CONTAINER];
     struct list *p = &c->pending;
-    uint64_t answer = c2c_fill(c->format, c->tail_len, c->tail, TAIL, grant, GRANT, p->bytes, p->len, container, CONTAINER);
+    uint64_t answer = c2c_fill(c->format, c->tail_len, c->tail, PART, grant, GRANT, p->bytes, p->len, container, CONTAINER);
     if (answer >> 32 != 0)
         fail("writer", (unsigned)(answer >> 32), 0, (unsigned)answer);
     size_t used = (size_t)(answer / 256);

@@ -3,37 +3,29 @@
 #include <string.h>
 
 #include "../../include/c2c.h"
+#include "../models/layout.h"
+#include "../models/plain.h"
+#include "../tools/probe.h"
 #include "../tools/vectors.h"
 
-/* The bytes of the part that an ask hands out, and byte i of it. */
-size_t c2c_part_length(uint32_t format, size_t response, size_t other, uint32_t run, const uint8_t *responses, size_t responses_len,
-                       const uint8_t *others, size_t others_len);
-uint8_t c2c_part_byte(size_t i, uint32_t format, size_t response, size_t other, uint32_t run, const uint8_t *responses,
-                      size_t responses_len, const uint8_t *others, size_t others_len);
-
-enum { LIST = 8192, NUMBERS = 3 };
+/* The bytes kept for a list, more room than a record needs, and the numbers of a feed that is too long. */
+enum { BYTES = 8192, ROOM = 256, TOO_LONG = FEED + 1 };
 
 static const char heads[] = "format\tresponses\tothers\tpositions\trun\tlist\tcause\tplace\trecord\tnext positions\tnext run";
 
-/* The longest record, more room than it needs, and a feed that is too long. */
-enum { RECORD = 121, ROOM = 256, FEED = 4 };
-
-/* A code is cause * CAUSE + list * WAITING + n. */
-enum { CAUSE = 16777216, WAITING = 65536 };
-
 /* A call, and what it is to give: the code, the feed and the record at the room's front. */
 struct vector {
-    uint32_t format, feed[FEED];
+    uint32_t format, feed[TOO_LONG];
     size_t feed_len, room_len;
-    uint8_t responses[LIST], others[LIST];
+    uint8_t responses[BYTES], others[BYTES];
     size_t responses_len, others_len;
-    uint32_t code, feed_wanted[FEED];
+    uint32_t code, feed_wanted[TOO_LONG];
     uint8_t record[ROOM];
     size_t record_len;
 };
 
 /* The three numbers of a feed, from the fields of its positions and its run. */
-static void parse_feed(const struct vectors *in, unsigned positions, unsigned run, uint32_t feed[FEED]) {
+static void parse_feed(const struct vectors *in, unsigned positions, unsigned run, uint32_t feed[TOO_LONG]) {
     unsigned response, other;
     if (sscanf(in->field[positions], "%u,%u", &response, &other) != 2)
         vectors_fail(in, "a field that is not two positions");
@@ -46,14 +38,14 @@ static void parse_feed(const struct vectors *in, unsigned positions, unsigned ru
 static void parse(const struct vectors *in, struct vector *v) {
     memset(v, 0, sizeof *v);
     v->format = (uint32_t)vectors_number(in, 0);
-    v->responses_len = vectors_bytes(in, 1, v->responses, LIST);
-    v->others_len = vectors_bytes(in, 2, v->others, LIST);
+    v->responses_len = vectors_bytes(in, 1, v->responses, BYTES);
+    v->others_len = vectors_bytes(in, 2, v->others, BYTES);
     parse_feed(in, 3, 4, v->feed);
     uint32_t list = in->field[5][0] == '-' ? 0 : 1 + (uint32_t)vectors_number(in, 5);
     uint32_t cause = (uint32_t)vectors_number(in, 6), place = (uint32_t)vectors_number(in, 7);
     v->record_len = vectors_bytes(in, 8, v->record, ROOM);
     parse_feed(in, 9, 10, v->feed_wanted);
-    v->feed_len = NUMBERS;
+    v->feed_len = FEED;
     v->room_len = ROOM;
     v->code = cause * CAUSE + list * WAITING + (cause == 0 ? (uint32_t)v->record_len : place);
 }
@@ -86,13 +78,13 @@ static const struct {
     size_t feed_len, room_len, zeros;
     uint32_t code;
 } refused[] = {
-    {NUMBERS - 1, RECORD, 0, 19 * CAUSE},
-    {NUMBERS + 1, RECORD, 0, 19 * CAUSE},
-    {NUMBERS + 1, RECORD - 1, 4097, 19 * CAUSE},
-    {NUMBERS, RECORD - 1, 0, 2 * CAUSE},
-    {NUMBERS, RECORD - 1, 4097, 2 * CAUSE},
-    {NUMBERS, RECORD, 4097, 18 * CAUSE},
-    {NUMBERS, RECORD, 4096, 17 * CAUSE + WAITING},
+    {FEED - 1, RECORD, 0, 19 * CAUSE},
+    {TOO_LONG, RECORD, 0, 19 * CAUSE},
+    {TOO_LONG, RECORD - 1, LIST + 1, 19 * CAUSE},
+    {FEED, RECORD - 1, 0, 2 * CAUSE},
+    {FEED, RECORD - 1, LIST + 1, 2 * CAUSE},
+    {FEED, RECORD, LIST + 1, 18 * CAUSE},
+    {FEED, RECORD, LIST, 17 * CAUSE + WAITING},
 };
 
 /* Runs the calls that no vector holds; answers the differences. */
@@ -112,10 +104,10 @@ static unsigned run_refused(struct vector *v) {
 /* Runs the longest record, a WrReqDataL, in room that just holds it; answers whether it is handed out. */
 static int run_longest(struct vector *v) {
     memset(v, 0, sizeof *v);
-    v->feed_len = NUMBERS;
+    v->feed_len = FEED;
     v->room_len = v->others_len = v->record_len = v->feed_wanted[1] = RECORD;
-    v->others[0] = RECORD - 1;
-    v->others[1] = 9;
+    v->others[0] = LARGEST;
+    v->others[1] = WR_REQ_DATA_L;
     memset(v->others + 3, 0xFF, RECORD - 3);
     memcpy(v->record, v->others, RECORD);
     v->code = 2 * WAITING + RECORD;

@@ -2,24 +2,22 @@
    tail, a grant or a ShC that is refused by 19. */
 #include <string.h>
 
+#include "../models/layout.h"
+#include "../tools/probe.h"
 #include "../tools/vectors.h"
 
-/* Fills a container; `tail` holds the writer's tail array before and after. */
-uint64_t c2c_fill(uint32_t format, size_t len, uint8_t *tail, size_t tail_len, const uint8_t *grant, size_t grant_len,
-                  const uint8_t *list, size_t list_len, uint8_t *container, size_t container_len);
-
-enum { LIST = 8192, TAIL = 100, GRANT = 6, CONTAINER = 256, WRONG = 5 };
+enum { BYTES = 8192, WRONG = 5 };
 
 static const char heads[] = "format\ttail\tgrant\tlist\tcause\tplace\tused\tnext tail\tcontainer";
 
 /* A call, and what it is to give. */
 struct vector {
     uint32_t format;
-    uint8_t tail[TAIL], grant[GRANT], list[LIST];
+    uint8_t tail[PART], grant[GRANT], list[BYTES];
     size_t len, list_len;
     int refused;
     uint64_t answer;
-    uint8_t tail_wanted[TAIL], container[CONTAINER];
+    uint8_t tail_wanted[PART], container[CONTAINER];
 };
 
 /* The six numbers of a grant field. */
@@ -38,11 +36,11 @@ static void parse_grant(const struct vectors *in, unsigned field, uint8_t *out) 
 static void parse(const struct vectors *in, struct vector *v) {
     memset(v, 0, sizeof *v);
     v->format = (uint32_t)vectors_number(in, 0);
-    v->len = vectors_bytes(in, 1, v->tail, TAIL);
+    v->len = vectors_bytes(in, 1, v->tail, PART);
     parse_grant(in, 2, v->grant);
-    v->list_len = vectors_bytes(in, 3, v->list, LIST);
+    v->list_len = vectors_bytes(in, 3, v->list, BYTES);
     uint64_t cause = vectors_number(in, 4), place = vectors_number(in, 5), used = vectors_number(in, 6);
-    size_t len = vectors_bytes(in, 7, v->tail_wanted, TAIL);
+    size_t len = vectors_bytes(in, 7, v->tail_wanted, PART);
     v->refused = cause != 0;
     v->answer = cause == 0 ? used * 256 + len : cause * 4294967296u + place;
     if (vectors_bytes(in, 8, v->container, CONTAINER) != CONTAINER)
@@ -58,8 +56,8 @@ static int untouched(const uint8_t *container) {
 static int run(struct vector *v, unsigned number) {
     uint8_t container[CONTAINER];
     memset(container, FILLER, CONTAINER);
-    uint64_t answer = c2c_fill(v->format, v->len, v->tail, TAIL, v->grant, GRANT, v->list, v->list_len, container, CONTAINER);
-    if (answer == v->answer && memcmp(v->tail, v->tail_wanted, TAIL) == 0 && memcmp(container, v->container, CONTAINER) == 0
+    uint64_t answer = c2c_fill(v->format, v->len, v->tail, PART, v->grant, GRANT, v->list, v->list_len, container, CONTAINER);
+    if (answer == v->answer && memcmp(v->tail, v->tail_wanted, PART) == 0 && memcmp(container, v->container, CONTAINER) == 0
         && (!v->refused || untouched(container)))
         return 1;
     printf("vector %u: answer %llu, wanted %llu\n", number, (unsigned long long)answer, (unsigned long long)v->answer);
@@ -68,9 +66,9 @@ static int run(struct vector *v, unsigned number) {
 
 /* Runs a vector with ShC from 2 to 255 or a tail or grant of another length; answers whether 19 is told and nothing is written. */
 static int run_wrong(const struct vector *v, unsigned number, unsigned which) {
-    static const size_t lens[WRONG][2] = {{TAIL, GRANT}, {TAIL - 1, GRANT}, {TAIL + 1, GRANT}, {TAIL, GRANT - 1}, {TAIL, GRANT + 1}};
-    uint8_t tail[TAIL + 1] = {0}, kept[TAIL + 1], grant[GRANT + 1] = {0}, container[CONTAINER];
-    memcpy(tail, v->tail, TAIL);
+    static const size_t lens[WRONG][2] = {{PART, GRANT}, {PART - 1, GRANT}, {PART + 1, GRANT}, {PART, GRANT - 1}, {PART, GRANT + 1}};
+    uint8_t tail[PART + 1] = {0}, kept[PART + 1], grant[GRANT + 1] = {0}, container[CONTAINER];
+    memcpy(tail, v->tail, PART);
     memcpy(kept, tail, sizeof kept);
     memcpy(grant, v->grant, GRANT);
     memset(container, FILLER, CONTAINER);

@@ -24,38 +24,19 @@ static int all_zero(const uint8_t *p, size_t n) {
 }
 
 static int form_ok(uint8_t b) {
-    return b < 16 && (b % 2 == 0 || b / 2 == 0);
+    return b < 2 * PLANES && (b % 2 == 0 || b / 2 == 0);
 }
 
 static int head_ok(unsigned type, unsigned op, const uint8_t *p) {
-    unsigned flags = p[0] / 16;
-    switch (type) {
-    case 3: case 4: case 5: case 10:
-        if (flags != 0)
-            return 0;
-        break;
-    case 6: case 7:
-        if (flags > 1)
-            return 0;
-        break;
-    case 8: case 9:
-        if (p[1] > 1)
-            return 0;
-        break;
-    default:
-        break;
-    }
-    if (type == 10 && op == 1)
-        return p[2] >= 1 && p[2] <= 5;
-    if (type == 10 && op == 2)
-        return form_ok(p[2]) && all_zero(p + 7, 9);
-    return 1;
-}
-
-static int place_ok(unsigned g, size_t width, unsigned type, unsigned op, size_t size) {
-    if (width < 20 && !((type == 3 || type == 10) && size <= width))
+    if (p[0] / 16u >= flag_values(type))
         return 0;
-    return !(type == 10 && op == 0) || g == 0;
+    if (type == WR_REQ_DATA_S || type == WR_REQ_DATA_L)
+        return p[1] <= 1;
+    if (type == MISC_U && op == ACTIVATION)
+        return p[2] >= 1 && p[2] <= ACTIVATIONS;
+    if (type == MISC_U && op == CRDT_GRANT)
+        return form_ok(p[FORM]) && all_zero(p + FORM_END, message_size(type, op) - FORM_END);
+    return 1;
 }
 
 /* The cause of granule g, 0 if none; fills its marks and what is owed behind it. */
@@ -81,9 +62,9 @@ static unsigned granule(unsigned g, int starts, const uint8_t *p, size_t width, 
     if (size < width && !all_zero(p + size, width - size))
         return 9;
     m->populated = 1;
-    m->responses = type == 3 ? 1 : type == 4 ? 2 : 0;
-    m->misc = type == 10;
-    m->activation = type == 10 && op == 1;
+    m->responses = (int)count_responses(type);
+    m->misc = type == MISC_U;
+    m->activation = type == MISC_U && op == ACTIVATION;
     if (width == 20 && size > 20)
         *owed = size - 20;
     return 0;
@@ -93,9 +74,9 @@ static uint32_t groups(const struct marks *m) {
     for (unsigned q = 0; q < 4; q++, m += 3) {
         if ((m[1].populated && !m[0].populated) || (m[2].populated && !m[1].populated))
             return refuse(10, q);
-        if (m[0].misc + m[1].misc + m[2].misc > 1)
+        if (m[0].misc + m[1].misc + m[2].misc > GROUP_MISCS)
             return refuse(11, q);
-        if (m[0].responses + m[1].responses + m[2].responses > 4)
+        if (m[0].responses + m[1].responses + m[2].responses > GROUP_RESPONSES)
             return refuse(12, q);
     }
     return 0;
@@ -139,13 +120,12 @@ uint32_t plain_judge(uint32_t format, const uint8_t *c, size_t len) {
     return format > 1 ? refuse(19, 0) : judge(format, c, len, &owed);
 }
 
-/* Whether a receiver has pool p. */
-static int has_pool(const struct plain_receiver *r, unsigned p) {
-    if (p >= 1 && p <= 8)
+int plain_has_pool(const struct plain_receiver *r, unsigned p) {
+    if (p >= FIRST_PLANE && p < RSP)
         return p <= r->planes;
-    if (p == 12)
+    if (p == DEDICATED_0)
         return r->push;
-    if (p == 13)
+    if (p == DEDICATED_1)
         return r->push && r->planes >= 2;
     return 1;
 }
@@ -153,21 +133,21 @@ static int has_pool(const struct plain_receiver *r, unsigned p) {
 unsigned plain_charges(const uint8_t *m, unsigned pools[2]) {
     unsigned type = m[0] % 16, shared = m[0] / 16 % 2, plane = m[0] / 32;
     switch (type) {
-    case 1: case 2:
-        pools[0] = shared ? 0 : 1 + plane;
+    case REQ_S: case REQ_L:
+        pools[0] = shared ? SHARED_REQ : FIRST_PLANE + plane;
         return 1;
-    case 3: case 4:
-        pools[0] = 9;
+    case RESP: case RESP2:
+        pools[0] = RSP;
         return 1;
-    case 5:
-        pools[0] = 10;
+    case SNOOP:
+        pools[0] = SNP;
         return 1;
-    case 6: case 7:
-        pools[0] = shared ? 11 : 12;
+    case DATA_S: case DATA_L:
+        pools[0] = shared ? SHARED_DAT : DEDICATED_0;
         return 1;
-    case 8: case 9:
-        pools[0] = shared ? 0 : 1 + plane;
-        pools[1] = m[1] % 2 ? 11 : 13;
+    case WR_REQ_DATA_S: case WR_REQ_DATA_L:
+        pools[0] = shared ? SHARED_REQ : FIRST_PLANE + plane;
+        pools[1] = m[1] % 2 ? SHARED_DAT : DEDICATED_1;
         return 2;
     default:
         return 0;
@@ -176,13 +156,14 @@ unsigned plain_charges(const uint8_t *m, unsigned pools[2]) {
 
 uint32_t plain_payable(const struct plain_receiver *r, const uint8_t *m) {
     unsigned type = m[0] % 16, shared = m[0] / 16 % 2, plane = m[0] / 32;
-    int request = type == 1 || type == 2, data = type == 6 || type == 7, push = type == 8 || type == 9;
+    int request = type == REQ_S || type == REQ_L, data = type == DATA_S || type == DATA_L;
+    int push = type == WR_REQ_DATA_S || type == WR_REQ_DATA_L;
     if ((request || push) && plane >= r->planes)
-        return refuse(14, 1 + plane);
-    if (data && !shared && !has_pool(r, 12))
-        return refuse(14, 12);
-    if (push && (!r->push || (m[1] % 2 == 0 && !has_pool(r, 13))))
-        return refuse(14, 13);
+        return refuse(14, FIRST_PLANE + plane);
+    if (data && !shared && !plain_has_pool(r, DEDICATED_0))
+        return refuse(14, DEDICATED_0);
+    if (push && (!r->push || (m[1] % 2 == 0 && !plain_has_pool(r, DEDICATED_1))))
+        return refuse(14, DEDICATED_1);
     return 0;
 }
 
@@ -199,20 +180,19 @@ static uint32_t grantable(const struct plain_receiver *r, const uint8_t form[5])
     if (shc)
         return 0;
     if (rp >= r->planes)
-        return refuse(14, 1 + rp);
+        return refuse(14, FIRST_PLANE + rp);
     if (dat != 0 && (!r->push || rp > 1))
-        return refuse(14, rp == 0 ? 12 : 13);
+        return refuse(14, rp == 0 ? DEDICATED_0 : DEDICATED_1);
     return 0;
 }
 
 /* Counts what a grant form gives. */
 static void count_grant(const uint8_t form[5], unsigned counts[POOLS]) {
-    unsigned shc = form[0] % 2, rp = form[0] / 2;
-    counts[shc ? 0 : 1 + rp] += form[1];
-    counts[9] += form[2];
-    counts[10] += form[3];
+    counts[plain_grant_pool(form[0], 0)] += form[1];
+    counts[plain_grant_pool(form[0], 1)] += form[2];
+    counts[plain_grant_pool(form[0], 2)] += form[3];
     if (form[4] != 0)
-        counts[shc ? 11 : 12 + rp] += form[4];
+        counts[plain_grant_pool(form[0], 3)] += form[4];
 }
 
 /* Judges the messages that start by 14 and counts what they pay. */
@@ -246,8 +226,8 @@ static uint32_t give_grants(const struct plain_receiver *r, uint32_t format, con
     uint32_t answer = give(r, form, granted);
     for (unsigned g = 0; g < GRANULES && answer == 0; g++) {
         const uint8_t *m = c + granule_start(g);
-        if ((starts >> g & 1) && m[0] % 16 == 10 && m[1] == 2)
-            answer = give(r, m + 2, granted);
+        if ((starts >> g & 1) && m[0] % 16 == MISC_U && m[1] == CRDT_GRANT)
+            answer = give(r, m + FORM, granted);
     }
     return answer;
 }
@@ -319,10 +299,10 @@ unsigned plain_step(struct plain_ledger *l, unsigned d, const uint8_t *c, size_t
 }
 
 static int receiver_valid(const struct plain_receiver *r) {
-    if (r->planes < 1 || r->planes > 8)
+    if (r->planes < 1 || r->planes > PLANES)
         return 0;
     for (unsigned p = 0; p < POOLS; p++)
-        if (r->capacity[p] > 1023 || (r->capacity[p] > 0 && !has_pool(r, p)))
+        if (r->capacity[p] > 1023 || (r->capacity[p] > 0 && !plain_has_pool(r, p)))
             return 0;
     return 1;
 }
@@ -330,7 +310,7 @@ static int receiver_valid(const struct plain_receiver *r) {
 /* Whether a carry is empty, or the first 20k bytes of a well-headed longer message, with zeros behind. */
 static int carry_valid(const struct plain_carry *carry) {
     unsigned type = carry->bytes[0] % 16, op = carry->bytes[1];
-    if (carry->len > CARRY || !all_zero(carry->bytes + carry->len, CARRY - carry->len))
+    if (carry->len > PART || !all_zero(carry->bytes + carry->len, PART - carry->len))
         return 0;
     if (carry->len == 0)
         return 1;
@@ -370,7 +350,7 @@ struct plain_ledger plain_ledger_open(const uint32_t numbers[NUMBERS]) {
     struct plain_ledger l = {0};
     l.format = numbers[0];
     for (unsigned d = 0; d < 2; d++) {
-        const uint32_t *n = numbers + 1 + 16 * d;
+        const uint32_t *n = numbers + 1 + RECEIVER * d;
         l.receiver[d].planes = n[0];
         l.receiver[d].push = n[1] != 0;
         memcpy(l.receiver[d].capacity, n + 2, sizeof l.receiver[d].capacity);
@@ -379,7 +359,7 @@ struct plain_ledger plain_ledger_open(const uint32_t numbers[NUMBERS]) {
 }
 
 int plain_configured(const uint32_t *numbers, size_t numbers_len) {
-    if (numbers_len != NUMBERS || numbers[2] > 1 || numbers[18] > 1)
+    if (numbers_len != NUMBERS || numbers[2] > 1 || numbers[2 + RECEIVER] > 1)
         return 0;
     struct plain_ledger l = plain_ledger_open(numbers);
     return plain_valid(&l);
@@ -395,21 +375,28 @@ static struct plain_run open_run(const uint32_t *numbers, size_t numbers_len) {
     return run;
 }
 
-/* The number at the front of a list and its bytes, 0 bytes if it is broken. */
-static size_t read_number(const uint8_t *list, size_t len, uint64_t *value) {
+size_t plain_read_number(const uint8_t *bytes, size_t len, uint64_t *value) {
     *value = 0;
     for (size_t i = 0; i < len && i < 5; i++) {
-        *value += (uint64_t)(list[i] % 128) << (7 * i);
-        if (list[i] < 128)
-            return (i > 0 && list[i] == 0) || *value > UINT32_MAX ? 0 : i + 1;
+        *value += (uint64_t)(bytes[i] % 128) << (7 * i);
+        if (bytes[i] < 128)
+            return (i > 0 && bytes[i] == 0) || *value > UINT32_MAX ? 0 : i + 1;
     }
     return 0;
+}
+
+size_t plain_put_number(uint32_t number, uint8_t *out) {
+    size_t n = 0;
+    for (; number >= 128; number /= 128)
+        out[n++] = (uint8_t)(128 + number % 128);
+    out[n] = (uint8_t)number;
+    return n + 1;
 }
 
 /* The bytes of the number of the entry at the front, and the entry's direction; 0 if it is not whole. */
 static size_t frame_entry(const uint8_t *bytes, size_t len, unsigned *direction) {
     uint64_t number;
-    size_t used = read_number(bytes, len, &number);
+    size_t used = plain_read_number(bytes, len, &number);
     *direction = (unsigned)(number % 2);
     return len - used < CONTAINER ? 0 : used;
 }
@@ -444,20 +431,20 @@ struct plain_run plain_run_each(const uint32_t *numbers, size_t numbers_len, con
 /* The bytes of the record at the front of a list, 0 if it is broken or, by `responses`, in the wrong list. */
 static size_t measure_record(const uint8_t *list, size_t len, int responses) {
     uint64_t size;
-    size_t used = read_number(list, len, &size);
+    size_t used = plain_read_number(list, len, &size);
     if (used == 0 || size < 2 || size > len - used)
         return 0;
     const uint8_t *m = list + used;
     unsigned type = m[0] % 16, op = m[1];
     if (message_size(type, op) != size || !head_ok(type, op, m))
         return 0;
-    return (type == 3 || type == 4) == responses ? used + size : 0;
+    return (count_responses(type) > 0) == responses ? used + size : 0;
 }
 
 uint32_t plain_feed(uint32_t format, uint32_t *feed, size_t feed_len, const uint8_t *responses, size_t responses_len,
                     const uint8_t *others, size_t others_len, uint8_t *room, size_t room_len) {
-    enum { CAUSE = 16777216, WAITING = 65536, LIST = 4096, RUN = 4, RECORD = 121 };
-    if (feed_len != 3 || format > 1 || feed[0] > responses_len || feed[1] > others_len || feed[2] > RUN)
+    enum { RUN = 4 };
+    if (feed_len != FEED || format > 1 || feed[0] > responses_len || feed[1] > others_len || feed[2] > RUN)
         return 19 * CAUSE;
     if (room_len < RECORD)
         return 2 * CAUSE;

@@ -1,11 +1,20 @@
-/* A straightforward C version of the judging of a container, of the audit and of the feeder, to compare with. */
+/* A straightforward C version of numbers, of the judging of a container, of the audit and of the feeder, to compare with. */
 #ifndef PLAIN_H
 #define PLAIN_H
 
 #include <stddef.h>
 #include <stdint.h>
 
-enum { POOLS = 14, CARRY = 100, NUMBERS = 33, ENTRY = 257 };
+#include "layout.h"
+
+/* The pools: shared REQ, the planes of REQ, RSP, SNP, shared DAT, and DAT dedicated 0 and 1. */
+enum { SHARED_REQ, FIRST_PLANE, RSP = FIRST_PLANE + PLANES, SNP, SHARED_DAT, DEDICATED_0, DEDICATED_1, POOLS };
+
+/* The numbers of a receiver and of a log's configuration, and the bytes of an entry whose number is below 128. */
+enum { RECEIVER = 2 + POOLS, NUMBERS = 1 + 2 * RECEIVER, ENTRY = 1 + CONTAINER };
+
+/* The numbers of a feed; an ask answers cause * CAUSE + list * WAITING + n. */
+enum { FEED = 3, CAUSE = 16777216, WAITING = 65536 };
 
 /* What describes the receiver of a direction. */
 struct plain_receiver {
@@ -15,7 +24,7 @@ struct plain_receiver {
 /* The first bytes of a message that goes on in the next container of its direction, zeros behind. */
 struct plain_carry {
     size_t len;
-    uint8_t bytes[CARRY];
+    uint8_t bytes[PART];
 };
 
 /* The state of the audit: for each direction its receiver, its carry, and the credits held and messages open of each pool. */
@@ -35,6 +44,12 @@ struct plain_run {
 };
 
 typedef unsigned plain_auditing(struct plain_ledger *, unsigned direction, const uint8_t *container, size_t len, uint64_t *place);
+
+/* The number at the front of some bytes, in seven-bit groups; answers the bytes that it takes, 0 if it is broken. */
+size_t plain_read_number(const uint8_t *bytes, size_t len, uint64_t *value);
+
+/* Puts a number in its shortest form, of at most five bytes; answers its bytes. */
+size_t plain_put_number(uint32_t number, uint8_t *out);
 
 /* 0, or cause * 65,536 + place, from a fresh state and without room. */
 uint32_t plain_judge(uint32_t format, const uint8_t *container, size_t container_len);
@@ -60,6 +75,24 @@ struct plain_run plain_run(const uint32_t *numbers, size_t numbers_len, const ui
 
 /* The same by an audit each. */
 struct plain_run plain_run_each(const uint32_t *numbers, size_t numbers_len, const uint8_t *entries, size_t len);
+
+/* Whether a receiver has a pool. */
+int plain_has_pool(const struct plain_receiver *, unsigned pool);
+
+/* The pool that count i of a grant form goes to, 0 being REQ, 1 RSP, 2 SNP and 3 DAT; there may be none for DAT. */
+static inline unsigned plain_grant_pool(uint8_t form_start, unsigned i) {
+    unsigned shc = form_start % 2, rp = form_start / 2;
+    switch (i) {
+    case 0:
+        return shc ? SHARED_REQ : FIRST_PLANE + rp;
+    case 1:
+        return RSP;
+    case 2:
+        return SNP;
+    default:
+        return shc ? SHARED_DAT : DEDICATED_0 + rp;
+    }
+}
 
 /* The pools that a well-headed message pays one credit of; answers how many. */
 unsigned plain_charges(const uint8_t *message, unsigned pools[2]);

@@ -4,11 +4,13 @@
 #include <stdlib.h>
 #include <string.h>
 
-enum { BYTES = 65536, LINES = 4096 };
-enum { REQ = 1, RSP = 2, SNP = 4, DAT = 8, NOTHING = 16 };
+#include "../models/layout.h"
+#include "../models/plain.h"
 
-/* The kinds that each type pays. */
-static const unsigned pays[16] = {0, REQ, REQ, RSP, RSP, SNP, DAT, DAT, REQ | DAT, REQ | DAT, NOTHING};
+enum { BYTES = 65536, LINES = 4096 };
+
+/* What messages pay: credits of a kind, or nothing. */
+enum { PAYS_REQ = 1, PAYS_RSP = 2, PAYS_SNP = 4, PAYS_DAT = 8, PAYS_NOTHING = 16 };
 
 /* The lines of a file: `count` messages, then the verdict. */
 struct lines {
@@ -23,11 +25,20 @@ static void fail(const char *name, const char *what) {
     exit(2);
 }
 
+/* The kind of the credits of a pool. */
+static unsigned kind_of(unsigned pool) {
+    return pool < RSP ? PAYS_REQ : pool == RSP ? PAYS_RSP : pool == SNP ? PAYS_SNP : PAYS_DAT;
+}
+
 /* The kinds that a message in hex pays, none if its type is unknown. */
 static unsigned kinds_of(const char *message) {
-    static const char digits[] = "0123456789abcdef";
-    const char *digit = message[0] == '\0' || message[1] == '\0' ? NULL : strchr(digits, message[1]);
-    return digit == NULL ? 0 : pays[digit - digits];
+    unsigned head[2], pools[2], kinds = 0;
+    if (sscanf(message, "%2x%2x", &head[0], &head[1]) != 2 || message_size(head[0] % 16, head[1]) == 0)
+        return 0;
+    unsigned n = plain_charges((uint8_t[]){(uint8_t)head[0], (uint8_t)head[1]}, pools);
+    for (unsigned i = 0; i < n; i++)
+        kinds |= kind_of(pools[i]);
+    return n == 0 ? PAYS_NOTHING : kinds;
 }
 
 /* Reads a file and parts it into lines. */
@@ -96,7 +107,7 @@ int main(int argc, char **argv) {
     load(argv[1], &a);
     load(argv[2], &b);
     int same = strcmp(a.line[a.count], b.line[b.count]) == 0;
-    for (unsigned kind = REQ; kind <= NOTHING; kind *= 2)
+    for (unsigned kind = PAYS_REQ; kind <= PAYS_NOTHING; kind *= 2)
         same = same && same_order(&a, &b, kind);
     return same && same_messages(&a, &b) ? 0 : 1;
 }

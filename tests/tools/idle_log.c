@@ -2,17 +2,19 @@
 #include <stdio.h>
 #include <stdlib.h>
 
-enum { ENTRY = 257, BLOCK = 256 };
+#include "../models/plain.h"
+
+enum { BLOCK = 256 };
 
 int main(int argc, char **argv) {
     static unsigned char block[BLOCK * ENTRY];
-    unsigned char numbers[33] = {0};
+    unsigned char numbers[NUMBERS] = {0};
     if (argc != 3) {
         fprintf(stderr, "usage: idle_log ENTRIES BYTES\n");
         return 2;
     }
     unsigned long entries = strtoul(argv[1], NULL, 10), bytes = strtoul(argv[2], NULL, 10);
-    numbers[1] = numbers[17] = 1;
+    numbers[1] = numbers[1 + RECEIVER] = 1;
     fwrite(numbers, 1, sizeof numbers, stdout);
     for (unsigned i = 0; i < BLOCK; i++)
         block[i * ENTRY] = (unsigned char)(i % 2);

@@ -1,12 +1,15 @@
-/* Writes random lists of records with right heads, N.list (a format and the list) and N.lines (its messages in hex). */
+/* Writes random lists of records with right heads, N.list (a format and the list) and N.lines (its messages in hex).
+   Usage: lists SEED COUNT DIRECTORY */
 #include <stdint.h>
 #include <stdio.h>
 #include <stdlib.h>
+#include <string.h>
 
-enum { LIST = 4096, KINDS = 14, LARGEST = 120, SMALLEST = 10, NAME = 4096 };
+#include "../models/layout.h"
+#include "../models/plain.h"
 
-/* Types 1 to 9, then MiscU ops 0 to 4. */
-static const uint8_t sizes[KINDS] = {20, 40, 10, 20, 20, 80, 100, 100, 120, 10, 10, 16, 10, 20};
+/* The kinds of messages: the types before MiscU, then its ops. */
+enum { TYPES = MISC_U - REQ_S, KINDS = TYPES + OPS, NAME = 4096 };
 
 static uint64_t state;
 
@@ -18,35 +21,35 @@ static unsigned below(unsigned bound) {
     return (unsigned)((z ^ (z >> 31)) % bound);
 }
 
-/* The first byte of a grant form: ShC 1 with RP 0, or ShC 0 with any RP. */
-static uint8_t form(void) {
-    return below(9) == 8 ? 1 : (uint8_t)(2 * below(8));
+/* The first byte of a right grant form. */
+static uint8_t make_form(void) {
+    return below(1 + PLANES) == PLANES ? form_start(1, 0) : form_start(0, below(PLANES));
+}
+
+/* Makes the head of a MiscU right. */
+static void make_misc(unsigned op, size_t size, uint8_t *m) {
+    m[0] = MISC_U;
+    m[1] = (uint8_t)op;
+    if (op == ACTIVATION)
+        m[2] = (uint8_t)(1 + below(ACTIVATIONS));
+    if (op == CRDT_GRANT) {
+        m[FORM] = make_form();
+        memset(m + FORM_END, 0, size - FORM_END);
+    }
 }
 
 /* A message of a kind: random bytes with a right head. */
 static size_t make(unsigned kind, uint8_t *m) {
-    size_t size = sizes[kind];
+    unsigned type = kind < TYPES ? REQ_S + kind : MISC_U, op = kind < TYPES ? 0 : kind - TYPES;
+    size_t size = message_size(type, op);
     for (size_t i = 0; i < size; i++)
         m[i] = (uint8_t)below(256);
-    if (kind >= 9) {
-        m[0] = 10;
-        m[1] = (uint8_t)(kind - 9);
-        if (m[1] == 1)
-            m[2] = (uint8_t)(1 + below(5));
-        if (m[1] == 2) {
-            m[2] = form();
-            for (size_t i = 7; i < size; i++)
-                m[i] = 0;
-        }
+    if (type == MISC_U) {
+        make_misc(op, size, m);
         return size;
     }
-    unsigned type = kind + 1, flags = below(16);
-    if (type >= 3 && type <= 5)
-        flags = 0;
-    if (type == 6 || type == 7)
-        flags %= 2;
-    m[0] = (uint8_t)(type + 16 * flags);
-    if (type >= 8)
+    m[0] = (uint8_t)(type + 16 * (below(16) % flag_values(type)));
+    if (type == WR_REQ_DATA_S || type == WR_REQ_DATA_L)
         m[1] = (uint8_t)below(2);
     return size;
 }
@@ -84,7 +87,8 @@ static void write_list(const char *dir, unsigned n, unsigned limit, unsigned kin
             misses++;
             continue;
         }
-        fputc((int)size, list);
+        uint8_t number[5];
+        fwrite(number, 1, plain_put_number((uint32_t)size, number), list);
         fwrite(m, 1, size, list);
         for (size_t i = 0; i < size; i++)
             fprintf(lines, "%02x", m[i]);

@@ -3,7 +3,6 @@
 #include <stdlib.h>
 #include <string.h>
 
-#include "../models/layout.h"
 #include "traffic.h"
 
 enum { TRIES = 64 };
@@ -17,42 +16,59 @@ unsigned draw(unsigned n) {
     return (unsigned)((seed >> 24) % n);
 }
 
+uint8_t draw_form(void) {
+    return draw(2) ? form_start(1, 0) : form_start(0, draw(PLANES));
+}
+
 size_t make_message(unsigned type, unsigned op, uint8_t *m) {
     size_t size = message_size(type, op);
     for (size_t i = 0; i < size; i++)
         m[i] = (uint8_t)draw(256);
-    unsigned flags = type <= 2 || type >= 8 ? draw(16) : type >= 6 ? draw(2) : 0;
-    m[0] = (uint8_t)(type + 16 * (type == 10 ? 0 : flags));
-    if (type == 8 || type == 9)
+    unsigned flags = type >= RESP && type <= SNOOP ? 0 : draw(16);
+    m[0] = (uint8_t)(type + 16 * (flags % flag_values(type)));
+    if (type == WR_REQ_DATA_S || type == WR_REQ_DATA_L)
         m[1] = (uint8_t)draw(2);
-    if (type == 10) {
+    if (type == MISC_U) {
         m[1] = (uint8_t)op;
-        if (op == 1)
-            m[2] = (uint8_t)(1 + draw(5));
-        if (op == 2) {
-            m[2] = (uint8_t)(draw(2) ? 1 : 2 * draw(8));
-            memset(m + 7, 0, 9);
+        if (op == ACTIVATION)
+            m[2] = (uint8_t)(1 + draw(ACTIVATIONS));
+        if (op == CRDT_GRANT) {
+            m[FORM] = draw_form();
+            memset(m + FORM_END, 0, size - FORM_END);
         }
     }
     return size;
 }
 
+int suits(uint32_t format, unsigned g, unsigned type, unsigned op, const struct group *group) {
+    if (type == MISC_U && group->miscs == GROUP_MISCS)
+        return 0;
+    if (group->responses + count_responses(type) > GROUP_RESPONSES)
+        return 0;
+    return place_ok(g, granule_size(format, g), type, op, message_size(type, op));
+}
+
+void join(struct group *group, unsigned type) {
+    group->miscs += type == MISC_U;
+    group->responses += count_responses(type);
+}
+
 /* Empties granule g, or starts a message of one granule there. */
 static void replace(uint32_t format, unsigned g, unsigned type, uint8_t *c) {
-    uint8_t message[LONGEST] = {0}, *bits = c + header_place(format, g / 8);
+    uint8_t message[LARGEST] = {0}, *bits = c + header_place(format, g / 8);
     unsigned bit = 1u << g % 8;
     size_t width = granule_size(format, g);
     memset(c + granule_start(g), 0, width);
     *bits = (uint8_t)(*bits & ~bit);
     if (type == 0)
         return;
-    size_t size = make_message(type, draw(5), message);
+    size_t size = make_message(type, draw(OPS), message);
     memcpy(c + granule_start(g), message, size < width ? size : width);
     *bits = (uint8_t)(*bits | bit);
 }
 
 void damage(uint32_t format, uint8_t *c) {
-    static const uint8_t types[5] = {0, 3, 4, 10, 10};
+    static const uint8_t types[5] = {0, RESP, RESP2, MISC_U, MISC_U};
     switch (draw(7)) {
     case 0:
         c[draw(CONTAINER)] = (uint8_t)draw(256);
@@ -81,12 +97,11 @@ void damage(uint32_t format, uint8_t *c) {
 }
 
 void describe_receiver(unsigned planes, unsigned push, unsigned capacity, uint32_t *n) {
+    struct plain_receiver receiver = {.planes = planes, .push = push};
     n[0] = planes;
     n[1] = push;
-    for (unsigned p = 0; p < POOLS; p++) {
-        int missing = (p >= 1 && p <= 8 && p > planes) || (p == 12 && !push) || (p == 13 && (!push || planes < 2));
-        n[2 + p] = missing ? 0 : capacity;
-    }
+    for (unsigned p = 0; p < POOLS; p++)
+        n[2 + p] = plain_has_pool(&receiver, p) ? capacity : 0;
 }
 
 void traffic_open(struct traffic *t, const uint32_t numbers[NUMBERS]) {
@@ -99,7 +114,8 @@ struct filling {
     uint32_t format;
     const struct plain_receiver *receiver, *granted; /* who takes its messages, and who is paid by its grants */
     unsigned credit[POOLS], room[POOLS];             /* what messages may still pay, and what may still be granted */
-    unsigned starts, miscs, responses, activation;   /* miscs and responses of the group */
+    unsigned starts, activation;
+    struct group group;
 };
 
 static struct filling begin_filling(const struct plain_ledger *l, unsigned d) {
@@ -121,22 +137,11 @@ static uint8_t make_count(struct filling *f, unsigned pool) {
 /* A grant form that the receiver it pays has pools and room for. */
 static void make_form(struct filling *f, uint8_t form[5]) {
     unsigned shared = draw(2), plane = shared ? 0 : draw(2) ? 0 : draw(f->granted->planes);
-    form[0] = (uint8_t)(shared + 2 * plane);
-    form[1] = make_count(f, shared ? 0 : 1 + plane);
-    form[2] = make_count(f, 9);
-    form[3] = make_count(f, 10);
-    form[4] = shared ? make_count(f, 11) : plane < 2 ? make_count(f, 12 + plane) : 0;
-}
-
-/* Whether a message of a size may start at granule g. */
-static int may_start(const struct filling *f, unsigned g, const uint8_t *m, size_t size) {
-    unsigned type = m[0] % 16, op = m[1];
-    size_t width = granule_size(f->format, g);
-    if (width < 20 && ((type != 3 && type != 10) || size > width))
-        return 0;
-    if (type == 10)
-        return f->miscs == 0 && (op != 0 || g == 0);
-    return f->responses + (type == 3 ? 1 : type == 4 ? 2 : 0) <= 4;
+    form[0] = form_start(shared, plane);
+    for (unsigned i = 0; i < 4; i++) {
+        unsigned pool = plain_grant_pool(form[0], i);
+        form[1 + i] = pool < POOLS ? make_count(f, pool) : 0;
+    }
 }
 
 /* Whether the messages' receiver has the pools of a message, and credits for it are held. */
@@ -150,17 +155,17 @@ static int affordable(const struct filling *f, const uint8_t *m) {
     return 1;
 }
 
-static unsigned draw_type(unsigned longer) {
+unsigned draw_type(unsigned longer) {
     if (draw(100) < longer)
-        return draw(2) ? 2 : 6 + draw(4);
-    return draw(4) ? 3 + draw(3) : draw(2) ? 1 : 10;
+        return draw(2) ? REQ_L : DATA_S + draw(4);
+    return draw(4) ? RESP + draw(3) : draw(2) ? REQ_S : MISC_U;
 }
 
 /* Draws messages until one may start at granule g and be paid; answers its size, 0 if none is found. */
 static size_t choose(const struct filling *f, unsigned g, unsigned longer, uint8_t *m) {
     for (unsigned i = 0; i < TRIES; i++) {
-        size_t size = make_message(draw_type(longer), draw(5), m);
-        if (may_start(f, g, m, size) && affordable(f, m))
+        size_t size = make_message(draw_type(longer), draw(OPS), m);
+        if (suits(f->format, g, m[0] % 16, m[1], &f->group) && affordable(f, m))
             return size;
     }
     return 0;
@@ -171,12 +176,11 @@ static void start(struct filling *f, unsigned g, uint8_t *m, size_t size, uint8_
     unsigned type = m[0] % 16, pools[2], n = plain_charges(m, pools);
     for (unsigned i = 0; i < n; i++)
         f->credit[pools[i]]--;
-    if (type == 10 && m[1] == 2)
-        make_form(f, m + 2);
+    if (type == MISC_U && m[1] == CRDT_GRANT)
+        make_form(f, m + FORM);
     f->starts |= 1u << g;
-    f->miscs += type == 10;
-    f->responses += type == 3 ? 1 : type == 4 ? 2 : 0;
-    f->activation |= type == 10 && m[1] == 1;
+    join(&f->group, type);
+    f->activation |= type == MISC_U && m[1] == ACTIVATION;
     memcpy(c + granule_start(g), m, size < 20 ? size : 20);
 }
 
@@ -189,11 +193,13 @@ static void put_on(struct traffic *t, unsigned d, unsigned g, uint8_t *c) {
 
 /* Fills the granules from the lowest upwards. */
 static void fill_granules(struct traffic *t, unsigned d, const struct profile *profile, struct filling *f, uint8_t *c) {
-    uint8_t m[LONGEST];
+    uint8_t m[LARGEST];
     int idle = draw(100) < profile->idle, resting = 0;
     for (unsigned g = 0; g < GRANULES; g++) {
-        if (g % 3 == 0)
-            f->miscs = f->responses = resting = 0;
+        if (g % 3 == 0) {
+            f->group = (struct group){0, 0};
+            resting = 0;
+        }
         if (t->sent[d] < t->size[d] && granule_size(f->format, g) == 20) {
             put_on(t, d, g, c);
             continue;

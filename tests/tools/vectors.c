@@ -5,12 +5,13 @@
 #include "vectors.h"
 
 void vectors_fail(const struct vectors *v, const char *what) {
-    fprintf(stderr, "%s, vector %u: %s\n", v->path, v->count, what);
+    fprintf(stderr, "%s, line %u: %s\n", v->path, v->lines, what);
     exit(2);
 }
 
 /* Reads a line; answers 0 at the end of the file. */
 static int read_line(struct vectors *v) {
+    v->lines++;
     if (fgets(v->line, LINE, v->in) == NULL)
         return 0;
     size_t len = strcspn(v->line, "\n");
@@ -37,7 +38,7 @@ static unsigned split(struct vectors *v) {
 void vectors_open(struct vectors *v, const char *path, const char *heads) {
     size_t len = strlen(heads);
     v->path = path;
-    v->count = 0;
+    v->lines = v->count = 0;
     v->in = fopen(path, "r");
     if (v->in == NULL || !read_line(v))
         vectors_fail(v, "no column heads");

@@ -8,11 +8,11 @@
 
 enum { COLUMNS = 11, LINE = 65536, FILLER = 0xEE };
 
-/* A file while it is read: its columns, the vectors read so far, and the fields of the last one. */
+/* A file while it is read: its columns, the lines and vectors read so far, and the fields of the last one. */
 struct vectors {
     FILE *in;
     const char *path;
-    unsigned columns, count;
+    unsigned columns, lines, count;
     char line[LINE], *field[COLUMNS];
 };
 
@@ -22,7 +22,7 @@ void vectors_open(struct vectors *, const char *path, const char *heads);
 /* Reads the next vector; answers 0, and closes the file, behind the last one. */
 int vectors_next(struct vectors *);
 
-/* Ends the program because of a field of the last vector. */
+/* Ends the program because of the last line. */
 _Noreturn void vectors_fail(const struct vectors *, const char *what);
 
 /* The bytes of a field in hex, at most so many; (n) is n zero bytes, and `-` alone is no byte. */
