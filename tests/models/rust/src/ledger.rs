@@ -192,7 +192,7 @@ fn request_pool(message: &[u8]) -> usize {
 }
 
 /// Judges a started message by its receiver: cause 14.
-fn judge_payment(receiver: &Receiver, message: &[u8]) -> Result<(), Refusal> {
+pub fn judge_payment(receiver: &Receiver, message: &[u8]) -> Result<(), Refusal> {
     let Some(kind) = Kind::of(message) else { return Ok(()) };
     if matches!(kind, Kind::ReqS | Kind::ReqL) || kind.is_push() {
         require(receiver.has_plane(plane(message)), MISSING_POOL, FIRST_PLANE + plane(message))?;
@@ -218,7 +218,7 @@ fn grants_of(header: Grant, started: &[Vec<u8>]) -> Vec<Grant> {
 }
 
 /// The pool of a grant's REQ count.
-fn grant_request_pool(grant: &Grant) -> usize {
+pub fn grant_request_pool(grant: &Grant) -> usize {
     if grant.shared {
         SHARED_REQ
     } else {
@@ -227,7 +227,7 @@ fn grant_request_pool(grant: &Grant) -> usize {
 }
 
 /// The pool of a grant's DAT count.
-fn grant_data_pool(grant: &Grant) -> usize {
+pub fn grant_data_pool(grant: &Grant) -> usize {
     match (grant.shared, grant.plane) {
         (true, _) => SHARED_DAT,
         (false, 0) => DEDICATED_0,
@@ -241,8 +241,12 @@ fn judge_grant(receiver: &Receiver, grant: &Grant) -> Result<(), Refusal> {
         return Ok(());
     }
     require(receiver.has_plane(usize::from(grant.plane)), MISSING_POOL, grant_request_pool(grant))?;
-    let pays_data = receiver.has_push() && grant.plane <= 1;
-    require(grant.dat == 0 || pays_data, MISSING_POOL, grant_data_pool(grant))
+    require(grant.dat == 0 || may_grant_data(receiver, grant), MISSING_POOL, grant_data_pool(grant))
+}
+
+/// Whether the receiver has a pool for a grant's DAT count.
+pub fn may_grant_data(receiver: &Receiver, grant: &Grant) -> bool {
+    grant.shared || receiver.has_push() && grant.plane <= 1
 }
 
 /// How often each pool is paid by messages.

@@ -21,6 +21,9 @@ pub enum Kind {
     Property,
 }
 
+/// The values of an Activation, counted from 1.
+pub const ACTIVATIONS: u8 = 5;
+
 pub const KINDS: [Kind; 14] = [
     Kind::ReqS,
     Kind::ReqL,
@@ -153,18 +156,24 @@ impl Kind {
         true
     }
 
+    /// How many values bits 4 to 7 of byte 0 have, counted from 0.
+    pub fn flag_values(self) -> u8 {
+        match self {
+            Kind::ReqS | Kind::ReqL | Kind::WrReqDataS | Kind::WrReqDataL => 16,
+            Kind::DataS | Kind::DataL => 2,
+            _ => 1,
+        }
+    }
+
     /// Whether the head bits and bytes are right, from the message's bytes in its first granule.
     pub fn is_well_headed(self, message: &[u8]) -> bool {
-        let flags = message[0] >> 4;
-        match self {
-            Kind::ReqS | Kind::ReqL => true,
-            Kind::Resp | Kind::Resp2 | Kind::Snoop => flags == 0,
-            Kind::DataS | Kind::DataL => flags <= 1,
+        let rest_right = match self {
             Kind::WrReqDataS | Kind::WrReqDataL => message[1] <= 1,
-            Kind::LinkStatus | Kind::Connect | Kind::Property => flags == 0,
-            Kind::Activation => flags == 0 && (1..=5).contains(&message[2]),
-            Kind::CrdtGrant => flags == 0 && is_grant_right(message),
-        }
+            Kind::Activation => (1..=ACTIVATIONS).contains(&message[2]),
+            Kind::CrdtGrant => is_grant_right(message),
+            _ => true,
+        };
+        message[0] >> 4 < self.flag_values() && rest_right
     }
 }
 

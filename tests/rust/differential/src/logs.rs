@@ -2,10 +2,11 @@
 
 use model::layout::{Format, Grant, CONTAINER};
 use model::ledger::{
-    payments, Ledger, Receiver, DEDICATED_0, FIRST_PLANE, NUMBERS, POOLS, RSP, SHARED_DAT, SHARED_REQ, SNP,
+    grant_data_pool, grant_request_pool, judge_payment, may_grant_data, payments, Ledger, Receiver, NUMBERS, POOLS,
+    RSP, SNP,
 };
 use model::list::write_number;
-use model::message::Kind;
+use model::message::{Charge, Kind};
 
 use crate::make;
 use crate::random::Random;
@@ -172,9 +173,7 @@ fn entry(random: &mut Random, ledger: &Ledger, own: usize, sloppy: usize) -> [u8
     let kinds = make::palette(random);
     let carry = ledger.carries[own];
     make::container(random, format, &carry, grant, |random, legal| {
-        let may = |kind: &Kind| kinds.contains(kind) && (*kind != Kind::Activation || grant.is_empty());
-        let legal: Vec<Kind> = legal.iter().copied().filter(may).collect();
-        books.message(random, &legal)
+        books.message(random, &make::chosen_beside(&grant, &kinds, legal))
     })
 }
 
@@ -185,18 +184,15 @@ impl Books {
             return make::grant(random);
         }
         let shared = random.once_in(2);
-        let plane = if shared { 0 } else { random.below(self.other.planes as usize) };
-        let req = if shared { SHARED_REQ } else { FIRST_PLANE + plane };
-        let dat = if shared { SHARED_DAT } else { DEDICATED_0 + plane };
-        let pays_data = shared || self.other.push == 1 && plane <= 1;
-        Grant {
-            shared,
-            plane: plane as u8,
-            req: self.amount(random, req),
-            rsp: self.amount(random, RSP),
-            snp: self.amount(random, SNP),
-            dat: if pays_data { self.amount(random, dat) } else { 0 },
+        let plane = if shared { 0 } else { random.below(self.other.planes as usize) as u8 };
+        let mut grant = Grant { shared, plane, ..Grant::default() };
+        grant.req = self.amount(random, grant_request_pool(&grant));
+        grant.rsp = self.amount(random, RSP);
+        grant.snp = self.amount(random, SNP);
+        if may_grant_data(&self.other, &grant) {
+            grant.dat = self.amount(random, grant_data_pool(&grant));
         }
+        grant
     }
 
     /// A number of credits of a pool, sometimes all and, sloppily, one too many.
@@ -228,12 +224,13 @@ impl Books {
             if random.once_in(3 * self.sloppy) {
                 return Some(message);
             }
-            if matches!(kind, Kind::ReqS | Kind::ReqL) || kind.is_push() {
+            if kind.charges().contains(&Charge::Req) {
                 let plane = random.byte_below(self.receiver.planes as u8);
                 message[0] = message[0] & 31 | plane << 5;
             }
             let pools = payments(&message);
-            let pays = pools.iter().all(|&pool| self.held[pool] > 0) && (!kind.is_push() || self.receiver.push == 1);
+            let has_pools = judge_payment(&self.receiver, &message).is_ok();
+            let pays = has_pools && pools.iter().all(|&pool| self.held[pool] > 0);
             if pays || random.once_in(4 * self.sloppy) {
                 for pool in pools {
                     self.held[pool] = self.held[pool].saturating_sub(1);

@@ -19,9 +19,10 @@ use std::time::Instant;
 use model::cause::{Refusal, BROKEN, NOT_VALID};
 use model::layout::{Format, Grant, CONTAINER};
 use model::ledger::{Ledger, DIRECTIONS, POOLS};
-use model::list::{check, write_list};
+use model::list::{check, write_list, LIST};
 use model::log::{verdict, Verdict};
 use model::order::is_returned;
+use model::reader::LEAST_ROOM;
 use model::{reader, writer};
 
 use crate::random::Random;
@@ -208,7 +209,11 @@ fn compare_container(random: &mut Random, tally: &mut Tally) {
     if judged != expected {
         tally.differ(&format!("c2c_judge, format {number}"), &container, &show(expected), &show(judged));
     }
-    let room_len = if random.once_in(100) { random.pick(&[0, 1, 100, 351]) } else { random.pick(&[352, 353, 400]) };
+    let room_len = if random.once_in(100) {
+        random.pick(&[0, 1, 100, LEAST_ROOM - 1])
+    } else {
+        random.pick(&[LEAST_ROOM, LEAST_ROOM + 1, 400])
+    };
     let filler = random.byte();
     let mut room = vec![filler; room_len];
     let mut room_proved = room.clone();
@@ -242,7 +247,7 @@ fn compare_fill(random: &mut Random, tally: &mut Tally) {
         make::damage_list(random, &mut list);
     }
     if random.once_in(100) {
-        list.resize(random.pick(&[4_096, 4_097, 5_000]), 0);
+        list.resize(random.pick(&[LIST, LIST + 1, 5_000]), 0);
     }
     let len = if random.once_in(100) { random.pick(&[0, 255, 257]) } else { CONTAINER };
     let filler = random.byte();

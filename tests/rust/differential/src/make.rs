@@ -2,7 +2,7 @@
 
 use model::layout::{granule_start, Format, Grant, Header, Part, CONTAINER, GRANULES, GROUP};
 use model::list::{write_record, LIST};
-use model::message::{Kind, KINDS};
+use model::message::{Kind, ACTIVATIONS, KINDS};
 use model::placement::Placement;
 
 use crate::random::Random;
@@ -46,10 +46,9 @@ pub fn grant(random: &mut Random) -> Grant {
 pub fn message(random: &mut Random, kind: Kind) -> Vec<u8> {
     let mut bytes = body(random, kind.size());
     let (number, op) = kind.code();
-    let flags = match kind {
-        Kind::ReqS | Kind::ReqL | Kind::WrReqDataS | Kind::WrReqDataL => random.byte_below(16),
-        Kind::DataS | Kind::DataL => random.byte_below(2),
-        _ => 0,
+    let flags = match kind.flag_values() {
+        1 => 0,
+        values => random.byte_below(values),
     };
     bytes[0] = number + 16 * flags;
     if let Some(op) = op {
@@ -57,7 +56,7 @@ pub fn message(random: &mut Random, kind: Kind) -> Vec<u8> {
     }
     match kind {
         Kind::WrReqDataS | Kind::WrReqDataL => bytes[1] = random.byte_below(2),
-        Kind::Activation => bytes[2] = 1 + random.byte_below(5),
+        Kind::Activation => bytes[2] = 1 + random.byte_below(ACTIVATIONS),
         Kind::CrdtGrant => set_grant(&mut bytes, grant(random)),
         _ => {}
     }
@@ -172,6 +171,12 @@ fn put(container: &mut [u8], g: usize, part: &[u8]) {
     container[start..start + part.len()].copy_from_slice(part);
 }
 
+/// The legal kinds that are to choose from, without Activation beside a grant.
+pub fn chosen_beside(grant: &Grant, kinds: &[Kind], legal: &[Kind]) -> Vec<Kind> {
+    let may = |kind: &Kind| kinds.contains(kind) && (*kind != Kind::Activation || grant.is_empty());
+    legal.iter().copied().filter(may).collect()
+}
+
 /// A container that keeps the rules from a fresh state.
 pub fn fresh_container(random: &mut Random, format: Format) -> [u8; CONTAINER] {
     let kinds = palette(random);
@@ -181,8 +186,7 @@ pub fn fresh_container(random: &mut Random, format: Format) -> [u8; CONTAINER] {
         if random.once_in(density) && density < 8 {
             return None;
         }
-        let may = |kind: &Kind| kinds.contains(kind) && (*kind != Kind::Activation || grant.is_empty());
-        let legal: Vec<Kind> = legal.iter().copied().filter(may).collect();
+        let legal = chosen_beside(&grant, &kinds, legal);
         if legal.is_empty() {
             return None;
         }

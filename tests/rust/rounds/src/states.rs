@@ -2,30 +2,30 @@
 
 use std::iter::once;
 
+use model::layout::{Format, GRANULES};
+use model::ledger::{DIRECTIONS, POOLS};
+use model::message::{Kind, KINDS};
+
 use crate::bench::container::{locate_granule, locate_header};
 use crate::bench::ledger::Ledger;
 use crate::bench::pools::Receiver;
 use crate::bench::reader::Reader;
 
-/// The types of the messages that can be carried: ReqL, DataS, DataL, WrReqDataS and WrReqDataL.
-const LONGER: [u8; 5] = [2, 6, 7, 8, 9];
-
-/// The type ReqS, which fills a granule.
-const REQUEST: u8 = 1;
-
 /// A container in which a message starts, behind requests that fill its group before it.
-fn starting(format: u32, kind: u8, granule: u8) -> [u8; 256] {
+fn starting(format: u32, kind: Kind, granule: u8) -> [u8; 256] {
     let mut container = [0; 256];
     for g in granule / 3 * 3..=granule {
-        container[locate_granule(g)] = if g < granule { REQUEST } else { kind };
+        let (number, _) = if g < granule { Kind::ReqS } else { kind }.code();
+        container[locate_granule(g)] = number;
         container[locate_header(format, g / 8)] |= 1 << (g % 8);
     }
     container
 }
 
-/// A container for each longer message and each granule.
+/// A container for each message that is longer than a granule, and so can be carried, and each granule.
 fn beginnings(format: u32) -> impl Iterator<Item = [u8; 256]> {
-    LONGER.into_iter().flat_map(move |kind| (0..12).map(move |granule| starting(format, kind, granule)))
+    let longer = KINDS.into_iter().filter(|kind| kind.size() > Format::X.granule_size(0));
+    longer.flat_map(move |kind| (0..GRANULES as u8).map(move |granule| starting(format, kind, granule)))
 }
 
 /// The fresh reader first, then those that carry a message.
@@ -44,7 +44,7 @@ fn behind(ledger: Ledger, direction: u32) -> Vec<Ledger> {
 
 /// The ledger that carries nothing first, then those that carry a message in one direction or in both.
 pub fn ledgers(format: u32) -> Vec<Ledger> {
-    let receiver = Receiver { planes: 8, push: true, capacities: [8; 14] };
-    let fresh = Ledger { held: [4; 28], ..Ledger::fresh(format, receiver, receiver).ledger };
+    let receiver = Receiver { planes: 8, push: true, capacities: [8; POOLS] };
+    let fresh = Ledger { held: [4; DIRECTIONS * POOLS], ..Ledger::fresh(format, receiver, receiver).ledger };
     behind(fresh, 0).into_iter().flat_map(|ledger| behind(ledger, 1)).collect()
 }
