@@ -6,7 +6,7 @@
 #include "../../include/c2c.h"
 #include "../models/layout.h"
 #include "../models/plain.h"
-#include "../tools/traffic.h"
+#include "../tools/containers.h"
 #include "clock.h"
 
 enum { ASKS = 200000, ROUNDS = 15, TURNS = 200, PROFILES = 3 };

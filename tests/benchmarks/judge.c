@@ -5,8 +5,8 @@
 
 #include "../models/layout.h"
 #include "../models/plain.h"
+#include "../tools/containers.h"
 #include "../tools/probe.h"
-#include "../tools/traffic.h"
 #include "clock.h"
 
 enum { COUNT = 512, DAMAGED = 200000, ROUNDS = 15, TURNS = 20, PROFILES = 4 };
@@ -14,58 +14,40 @@ enum { COUNT = 512, DAMAGED = 200000, ROUNDS = 15, TURNS = 20, PROFILES = 4 };
 static const char *const profile_name[PROFILES] = {"idle", "mixed", "dense", "dense, short"};
 static uint8_t containers[PROFILES][2][COUNT][CONTAINER];
 
-/* Draws a message that may start in granule g, one over a granule with a chance of `longer` in 100; answers whether there is one. */
-static int draw_message(unsigned format, unsigned g, unsigned longer, const struct group *group, unsigned *type, unsigned *op) {
+/* How full a container is to be, and the message that goes on in it. */
+struct density {
+    unsigned rest, longer; /* chances in 100 that a granule stays empty, with the rest of its group, and that a message is longer than one */
+    struct going going;
+};
+
+/* Whether any message may start at granule g. */
+static int has_place(const struct filling *f, unsigned g) {
+    return granule_size(f->format, g) == 20 || f->miscs < GROUP_MISCS || f->responses < GROUP_RESPONSES;
+}
+
+/* Chooses a message that may start at granule g, none in a granule that a longer message passes over. */
+static size_t choose(void *chooser, const struct filling *f, unsigned g, uint8_t *m) {
+    const struct density *d = chooser;
+    if (d->going.sent < d->going.size || draw(100) < d->rest)
+        return 0;
     do {
-        *type = draw_type(longer);
-        *op = draw(OPS);
-        if (suits(format, g, *type, *op, group))
-            return 1;
-    } while (granule_size(format, g) == 20 || group->miscs < GROUP_MISCS || group->responses < GROUP_RESPONSES);
+        unsigned type = draw_type(d->longer), op = draw(OPS);
+        if (suits(f, g, type, op))
+            return make_message(type, op, m);
+    } while (has_place(f, g));
     return 0;
 }
 
-/* Writes MsgStart and a grant, which has no counts beside an Activation. */
-static void write_header(unsigned format, unsigned starts, unsigned activation, uint8_t *c) {
-    c[header_place(format, 0)] = (uint8_t)starts;
-    c[header_place(format, 1)] = (uint8_t)(starts >> 8);
-    c[header_place(format, 2)] = draw_form();
-    for (unsigned i = 3; i < 7 && !activation; i++)
-        c[header_place(format, i)] = (uint8_t)draw(256);
-}
-
-/* Fills a container by document 01's rules from granule 0 upwards, each granule left empty, with the rest of its group,
-   with a chance of `rest` in 100. */
+/* Fills a container, with a grant that has no counts beside an Activation. */
 static void fill(unsigned format, unsigned rest, unsigned longer, uint8_t *c) {
-    uint8_t message[LARGEST] = {0};
-    struct group group = {0, 0};
-    unsigned owed = 0, size = 0, starts = 0, activation = 0, closed = 0, type, op;
+    struct filling f = {.format = format};
+    struct density d = {.rest = rest, .longer = longer};
     memset(c, 0, CONTAINER);
-    for (unsigned g = 0; g < GRANULES; g++) {
-        unsigned width = granule_size(format, g);
-        uint8_t *p = c + granule_start(g);
-        if (g % 3 == 0) {
-            group = (struct group){0, 0};
-            closed = 0;
-        }
-        if (owed > 0 && width == 20) {
-            unsigned n = owed < 20 ? owed : 20;
-            memcpy(p, message + size - owed, n);
-            owed -= n;
-            continue;
-        }
-        /* a granule passed over by a longer message is the last of its group */
-        closed = closed || owed > 0 || draw(100) < rest || !draw_message(format, g, longer, &group, &type, &op);
-        if (closed)
-            continue;
-        join(&group, type);
-        activation |= type == MISC_U && op == ACTIVATION;
-        size = make_message(type, op, message);
-        owed = size > 20 ? size - 20 : 0;
-        memcpy(p, message, size < 20 ? size : 20);
-        starts |= 1u << g;
-    }
-    write_header(format, starts, activation, c);
+    fill_granules(&f, &d.going, choose, &d, c);
+    uint8_t form[5] = {draw_form()};
+    for (unsigned i = 1; i < 5 && !f.activation; i++)
+        form[i] = (uint8_t)draw(256);
+    fill_header(&f, form, c);
 }
 
 static void make_containers(void) {

@@ -1,4 +1,4 @@
-/* The judging of a container, the audit and the feeder, written from documents 01 and 02 in plain C. */
+/* Numbers, the judging of a container, the audit and the feeder, written from documents 01 and 02 in plain C. */
 #include <string.h>
 
 #include "layout.h"

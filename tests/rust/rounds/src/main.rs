@@ -17,6 +17,9 @@ use bench::reader::{Answer as Reading, Judgement, Reader};
 use bench::slices::is_zero;
 use bench::writer::{Answer as Filling, Writer};
 use count::count;
+use model::layout::{CONTAINER, PART};
+use model::ledger::NUMBERS;
+use model::reader::LEAST_ROOM;
 use states::{ledgers, readers};
 
 /// The most rounds that K2 allows.
@@ -25,7 +28,7 @@ const BOUND: usize = 64;
 /// The longest part that the zero test is tried on alone.
 const LONGEST: usize = 1024;
 
-const IDLE: [u8; 256] = [0; 256];
+const IDLE: [u8; CONTAINER] = [0; CONTAINER];
 
 /// The rounds that one call of the zero test makes over `n` zeros: one for each sixteen, or part of sixteen, before the last sixteen.
 fn rounds_over(n: usize) -> usize {
@@ -40,7 +43,7 @@ fn accepted(call: impl FnOnce() -> bool) -> usize {
 }
 
 fn check(format: u32) -> usize {
-    accepted(|| c2c_check(format, &IDLE, &mut [0; 352]) == 0)
+    accepted(|| c2c_check(format, &IDLE, &mut [0; LEAST_ROOM]) == 0)
 }
 
 fn judge(reader: Reader) -> usize {
@@ -48,7 +51,7 @@ fn judge(reader: Reader) -> usize {
 }
 
 fn read(reader: Reader) -> usize {
-    accepted(|| matches!(reader.read(&IDLE, &mut [0; 352]).answer, Reading::Done { .. }))
+    accepted(|| matches!(reader.read(&IDLE, &mut [0; LEAST_ROOM]).answer, Reading::Done { .. }))
 }
 
 fn audit(ledger: Ledger, direction: u8) -> usize {
@@ -64,16 +67,16 @@ fn audit_entries(ledger: Ledger, direction: u8) -> usize {
     accepted(|| matches!(ledger.audit_entries(&entry(direction), 1).answer, Answer::Accepted))
 }
 
-/// The one entry of a log behind its configuration of 33 bytes.
+/// The one entry of a log behind a configuration of one byte a number.
 fn consume(ledger: Ledger, direction: u8) -> usize {
-    let log = LogReader { ledger, entries: 0, offset: 33 };
+    let log = LogReader { ledger, entries: 0, offset: NUMBERS as u64 };
     accepted(|| matches!(log.consume(&entry(direction), true).outcome, Outcome::Over(LogVerdict::Accepted { .. })))
 }
 
 /// An all-zero container filled from an empty list, with so many granules owed.
 fn fill(format: u32, owed: usize) -> usize {
     let grant = Grant { shc: false, rp: 0, req: 0, rsp: 0, snp: 0, dat: 0 };
-    let writer = Writer { format, tail: [0; 100], len: 20 * owed };
+    let writer = Writer { format, tail: [0; PART], len: 20 * owed };
     accepted(|| matches!(writer.fill(&[], grant, &mut IDLE.clone()).answer, Filling::Filled { .. }))
 }
 

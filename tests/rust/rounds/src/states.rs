@@ -2,7 +2,7 @@
 
 use std::iter::once;
 
-use model::layout::{Format, GRANULES};
+use model::layout::{Format, CONTAINER, GRANULES};
 use model::ledger::{DIRECTIONS, POOLS};
 use model::message::{Kind, KINDS};
 
@@ -12,8 +12,8 @@ use crate::bench::pools::Receiver;
 use crate::bench::reader::Reader;
 
 /// A container in which a message starts, behind requests that fill its group before it.
-fn starting(format: u32, kind: Kind, granule: u8) -> [u8; 256] {
-    let mut container = [0; 256];
+fn starting(format: u32, kind: Kind, granule: u8) -> [u8; CONTAINER] {
+    let mut container = [0; CONTAINER];
     for g in granule / 3 * 3..=granule {
         let (number, _) = if g < granule { Kind::ReqS } else { kind }.code();
         container[locate_granule(g)] = number;
@@ -23,7 +23,7 @@ fn starting(format: u32, kind: Kind, granule: u8) -> [u8; 256] {
 }
 
 /// A container for each message that is longer than a granule, and so can be carried, and each granule.
-fn beginnings(format: u32) -> impl Iterator<Item = [u8; 256]> {
+fn beginnings(format: u32) -> impl Iterator<Item = [u8; CONTAINER]> {
     let longer = KINDS.into_iter().filter(|kind| kind.size() > Format::X.granule_size(0));
     longer.flat_map(move |kind| (0..GRANULES as u8).map(move |granule| starting(format, kind, granule)))
 }
