@@ -48,8 +48,8 @@ static void make_entries(unsigned p, unsigned f) {
 static void make_all(void) {
     for (unsigned f = 0; f < 2; f++) {
         numbers[f][0] = f;
-        describe_receiver(8, 1, 1023, numbers[f] + 1);
-        describe_receiver(2, 1, 1023, numbers[f] + 1 + RECEIVER);
+        describe_receiver(PLANES, 1, CAPACITY, numbers[f] + 1);
+        describe_receiver(2, 1, CAPACITY, numbers[f] + 1 + RECEIVER);
         for (unsigned p = 0; p < PROFILES; p++)
             make_entries(p, f);
     }

@@ -14,9 +14,9 @@ enum { COUNT = 512, DAMAGED = 200000, ROUNDS = 15, TURNS = 20, PROFILES = 4 };
 static const char *const profile_name[PROFILES] = {"idle", "mixed", "dense", "dense, short"};
 static uint8_t containers[PROFILES][2][COUNT][CONTAINER];
 
-/* How full a container is to be, and the message that goes on in it. */
+/* How full a container is to be, by chances in 100 as in a profile of traffic, and the message that goes on in it. */
 struct density {
-    unsigned rest, longer; /* chances in 100 that a granule stays empty, with the rest of its group, and that a message is longer than one */
+    unsigned rest, longer;
     struct going going;
 };
 

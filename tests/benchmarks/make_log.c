@@ -30,8 +30,8 @@ int main(int argc, char **argv) {
         return 2;
     }
     numbers[0] = (uint32_t)strtoul(argv[2], NULL, 10);
-    describe_receiver(8, 1, 1023, numbers + 1);
-    describe_receiver(8, 1, 1023, numbers + 1 + RECEIVER);
+    describe_receiver(PLANES, 1, CAPACITY, numbers + 1);
+    describe_receiver(PLANES, 1, CAPACITY, numbers + 1 + RECEIVER);
     for (unsigned i = 0; i < NUMBERS; i++)
         write_number(numbers[i]);
     traffic_open(&traffic, numbers);

@@ -302,7 +302,7 @@ static int receiver_valid(const struct plain_receiver *r) {
     if (r->planes < 1 || r->planes > PLANES)
         return 0;
     for (unsigned p = 0; p < POOLS; p++)
-        if (r->capacity[p] > 1023 || (r->capacity[p] > 0 && !plain_has_pool(r, p)))
+        if (r->capacity[p] > CAPACITY || (r->capacity[p] > 0 && !plain_has_pool(r, p)))
             return 0;
     return 1;
 }

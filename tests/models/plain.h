@@ -10,6 +10,9 @@
 /* The pools: shared REQ, the planes of REQ, RSP, SNP, shared DAT, and DAT dedicated 0 and 1. */
 enum { SHARED_REQ, FIRST_PLANE, RSP = FIRST_PLANE + PLANES, SNP, SHARED_DAT, DEDICATED_0, DEDICATED_1, POOLS };
 
+/* The largest capacity of a pool. */
+enum { CAPACITY = 1023 };
+
 /* The numbers of a receiver and of a log's configuration, and the bytes of an entry whose number is below 128. */
 enum { RECEIVER = 2 + POOLS, NUMBERS = 1 + 2 * RECEIVER, ENTRY = 1 + CONTAINER };
 

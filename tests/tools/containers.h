@@ -37,8 +37,8 @@ size_t make_message(unsigned type, unsigned op, uint8_t *message);
 /* Whether a message may start at granule g beside what starts in its group. */
 int suits(const struct filling *, unsigned g, unsigned type, unsigned op);
 
-/* Fills the granules of a container of zeros from the lowest upwards, with the message that goes on and those that are chosen; where none is
-   chosen the rest of the group stays empty. */
+/* Fills the granules of a container of zeros from the lowest upwards, with the message that goes on and those that are chosen; where none
+   is chosen the rest of the group stays empty. */
 void fill_granules(struct filling *, struct going *, choosing *, void *chooser, uint8_t *container);
 
 /* Writes the starts and a grant form. */

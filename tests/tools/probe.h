@@ -1,4 +1,4 @@
-/* What the static library of probe has for tests and benchmarks: the judging and the filling of containers, and what the feeder hands out. */
+/* The judging and the filling of containers, and the part that the feeder hands out, through the static library for tests. */
 #ifndef PROBE_H
 #define PROBE_H
 

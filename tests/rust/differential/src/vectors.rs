@@ -20,8 +20,8 @@ pub struct Outcome {
     pub differences: usize,
 }
 
-/// Runs a function over the fields of every line behind the column heads, which must be these; it says whether they agree, or nothing if the
-/// line is left out.
+/// Runs a function over the fields of every line behind the column heads, which must be these; it says whether they agree, or nothing if
+/// the line is left out.
 fn each_line(path: &str, heads: &[&str], agrees: impl Fn(&[&str]) -> Option<bool>) -> Outcome {
     let text = fs::read_to_string(path).unwrap_or_else(|error| panic!("{path}: {error}"));
     let mut outcome = Outcome::default();
