@@ -11,14 +11,10 @@ flatten-requires-2 : tie.Need-flatten-requires-2
 flatten-requires-2 c κs = search needs
 
 returns : tie.Need-returns
-returns c =
-    let flat = c .before .before in
-    rw (eq-eqb _ _ (c .if1 .taken), flat .flatten2 .ensures, flat .before .flatten .ensures)
+returns c = rw (eq-eqb _ _ (c .if1 .taken), c .before .flatten2 .ensures, c .before .before .flatten .ensures)
 
 returns-2 : tie.Need-returns-2
-returns-2 c =
-    let flat = c .before .before in
-    rw (ne-eqb _ _ (c .if1 .left), flat .flatten2 .ensures, flat .before .flatten .ensures)
+returns-2 c = rw (ne-eqb _ _ (c .if1 .left), c .before .flatten2 .ensures, c .before .before .flatten .ensures)
 
 pub enter-spec : {M : Type 1} → statement M
 enter-spec = tie.close (tie.spec flatten-requires flatten-requires-2 returns returns-2)
