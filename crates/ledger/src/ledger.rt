@@ -137,14 +137,14 @@ impl Ledger {
         if direction == 0 {
             let carry = self.carry0;
             return Reader {
-                format: self.format,
                 carry: carry,
+                format: self.format,
             };
         }
         let carry = self.carry1;
         Reader {
-            format: self.format,
             carry: carry,
+            format: self.format,
         }
     }
 
@@ -232,6 +232,23 @@ impl Ledger {
         }
     }
 
+    // The ledger with other carries and tables.
+    fn renew(self, carry0: Carry, carry1: Carry, held: [u32; 28], opened: [u32; 28]) -> Ledger
+        ensures { λ r. ⌜ r ≡ record { format = self .format; receiver0 = self .receiver0; receiver1 = self .receiver1; carry0 = carry0; carry1 = carry1; held = held; opened = opened } ⌝ }
+    {
+        let receiver0 = self.receiver0;
+        let receiver1 = self.receiver1;
+        Ledger {
+            format: self.format,
+            receiver0: receiver0,
+            receiver1: receiver1,
+            carry0: carry0,
+            carry1: carry1,
+            held: held,
+            opened: opened,
+        }
+    }
+
     // The ledger behind an accepted entry.
     fn enter(
         self,
@@ -244,15 +261,12 @@ impl Ledger {
     {
         let credits = flatten(held);
         let messages = flatten(opened);
-        let mut ledger = self;
-        ledger.held = credits;
-        ledger.opened = messages;
         if direction == 0 {
-            ledger.carry0 = next;
-            return ledger;
+            let carry1 = self.carry1;
+            return self.renew(next, carry1, credits, messages);
         }
-        ledger.carry1 = next;
-        ledger
+        let carry0 = self.carry0;
+        self.renew(carry0, next, credits, messages)
     }
 
     // 15 and 16 by what the entry began and granted, and the ledger behind it.

@@ -19,10 +19,10 @@ use container::Grant;
 use container::read_grant;
 use container::read_starts;
 
-// A format, and what is carried.
+// What is carried, and a format; in this order no unused bytes lie between the two.
 pub struct Reader {
-    pub format: u32,
     pub carry: Carry,
+    pub format: u32,
 }
 
 // The answer of a reading: the length written and the header grant, or the refusal.
@@ -61,8 +61,8 @@ impl Reader {
         ensures { λ r. ⌜ r ≡ opened format ⌝ }
     {
         let reader = Reader {
-            format: format,
             carry: Carry::none(),
+            format: format,
         };
         if format < 2 {
             return Opened {
@@ -112,8 +112,8 @@ impl Reader {
         let len = self.carry.len;
         let next = gather_carry(format, container, &bytes[0..len], track);
         Reader {
-            format: format,
             carry: next,
+            format: format,
         }
     }
 
