@@ -50,9 +50,7 @@ ledger-alike l m f a b s = λ i. record {
   receiver0 = a i;
   receiver1 = b i;
   carry0 = s .carry0 i;
-  len0 = s .len0 i;
   carry1 = s .carry1 i;
-  len1 = s .len1 i;
   held = s .held i;
   opened = s .opened i;
 }
@@ -93,9 +91,7 @@ module _ (f : ℕ) (a b : Receiver) (v : configured f a b ≡ true) where
       opened = table-equal (after U xs .opened) (after U ys .opened) (long xs .1) (long ys .1)
           (λ n p h k. let d = of-number n h in rw (← d .1) (same-open (d .0) p k));
       carry0 = ap (λ (r : Reader). r .carry) (readers direction0);
-      len0 = ap (λ (r : Reader). r .len) (readers direction0);
       carry1 = ap (λ (r : Reader). r .carry) (readers direction1);
-      len1 = ap (λ (r : Reader). r .len) (readers direction1);
     }
 
     -- nothing else in a ledger depends on its entries

@@ -24,9 +24,7 @@ pub record SameEnd (l m : Ledger) : Type 0 where
   pub held : l .held ≡ m .held
   pub opened : l .opened ≡ m .opened
   pub carry0 : l .carry0 ≡ m .carry0
-  pub len0 : l .len0 ≡ m .len0
   pub carry1 : l .carry1 ≡ m .carry1
-  pub len1 : l .len1 ≡ m .len1
 
 -- two lists of calls from one fresh ledger have accepted "the same containers in the same order within each direction"
 abbrev pub SameTraffic : ℕ → Receiver → Receiver → Trace (Call (List ℕ)) → Trace (Call (List ℕ)) → Type 0
@@ -76,7 +74,7 @@ pub record Ended (es : List log.Entry) : Type 0 where
   pub accepted : AllAccepted oneBuffer es
   pub held : heldIn (reported (behind oneBuffer es) 0 9) ≡ 1
   pub opened : openIn (reported (behind oneBuffer es) 0 11) ≡ 1
-  pub carried : behind oneBuffer es .len0 ≡ 60
+  pub carried : behind oneBuffer es .carry0 .len ≡ 60
 
 -- an example: two orders that are accepted and end alike, and one that is refused
 pub record Orders : Type 0 where

@@ -86,8 +86,8 @@ pub record Marked : Type 0 where
   pub m3 : records (readerWith 1 []) reqAtG4 ≡ recordsOf ((3 ∷ replicate 9 0) ∷ (granule (formatOf 1) 4 reqAtG4 ++ granule (formatOf 1) 6 reqAtG4) ∷ [])
   pub m3-read : reading (readerWith 1 []) reqAtG4 352 .answer ≡ read.Done 52 noGrant
   -- M4 "DataL at G9 in X leaves a carry of 60 bytes"; M5 "in Y, 40"
-  pub m4 : reading (readerWith 0 []) (longAtG9 127) 352 .reader .len ≡ 60
-  pub m5 : reading (readerWith 1 []) (longAtG9 247) 352 .reader .len ≡ 40
+  pub m4 : reading (readerWith 0 []) (longAtG9 127) 352 .reader .carry .len ≡ 60
+  pub m5 : reading (readerWith 1 []) (longAtG9 247) 352 .reader .carry .len ≡ 40
   -- M6 "Resp2, Resp2, Resp in group 0: cause 12, place 0"; M7 "Resp, Resp2, Resp: accepted"
   pub m6 : readTold (reading (readerWith 0 []) (groupOf 4 4 3) 352 .answer) ≡ (12, 0)
   pub m7 : reading (readerWith 0 []) (groupOf 3 4 3) 352 .answer ≡ read.Done 43 noGrant

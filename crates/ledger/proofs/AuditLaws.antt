@@ -21,8 +21,8 @@ use Rattle.container.specs.Layout.{formatOf, msgStart, header}
 use Rattle.container.specs.Grants.{headerGrant}
 use Rattle.container.specs.declared.grant.Grant.{Grant}
 use Rattle.message.specs.Charges.{charges}
-use Rattle.reader.specs.Reading.{readerOk, carried, stateChecks, judgeChecks, nextReader}
-use Rattle.reader.specs.declared.reader.Reader.{Reader}
+use Rattle.reader.specs.Reading.{bytesIn, carried, stateChecks, judgeChecks, nextReader}
+use Rattle.reader.specs.declared.carry.Carry.{Carry}
 use Rattle.reader.proofs.AnswerLaws.{judge-state}
 use Rattle.reader.proofs.CarryLaws.{next-valid}
 use Rattle.reader.proofs.NextLaws.{carry-part, valid-short}
@@ -71,7 +71,7 @@ grant-plane f c {g} e =
     let q : g .rp ≡ header (formatOf f) c 2 / 2 % 8 = ap (λ (x : Grant). x .rp) e in omega arith
 
 -- an entry that reads, by the verdicts of 15 and then 16
-module _ (s : Ledger) (d : ℕ) (next : Reader) (begun granted : List ℕ) {held : List (List ℕ)} (eh : held ≡ nested (s .held)) {v : Verdict}
+module _ (s : Ledger) (d : ℕ) (next : Carry) (begun granted : List ℕ) {held : List (List ℕ)} (eh : held ≡ nested (s .held)) {v : Verdict}
     (ev : v ≡ firstFault (shortChecks (getD held d []) begun 14 0)) where
   abbrev shorts : List Check
   shorts = shortChecks (getD (nested (s .held)) d []) begun 14 0
@@ -122,7 +122,7 @@ module _ (s : Ledger) (d : ℕ) (next : Reader) (begun granted : List ℕ) {held
             let y : entryOf held o p ≡ 0 = ap (λ (t : List (List ℕ)). entryOf t o p) eh ∙ past (getD (nested (s .held)) o []) p (row-short (s .held) o) b in omega arith) (lt-or-le p 14)
 
         -- the ledger behind an entry whose books are sound
-        pub settle-done : {h f : List ℕ} {hs fs : List (List ℕ)} {paid : List ℕ} {l : Ledger} → paid ≡ row (λ p. chargedTo p (charges (take (next .len - 0) (next .carry)))) 14 0
+        pub settle-done : {h f : List ℕ} {hs fs : List (List ℕ)} {paid : List ℕ} {l : Ledger} → paid ≡ row (λ p. chargedTo p (charges (take (next .len - 0) (next .bytes)))) 14 0
             → hs ≡ rows (settledHeld d held begun granted) → h ≡ flattened hs
             → fs ≡ rows (settledOpen d opened paid) → f ≡ flattened fs
             → l ≡ entered s d next h f → _≡_ {A = Step} (record { ledger = l; answer = answer.Accepted }) (settling s d next begun granted)
@@ -130,7 +130,7 @@ module _ (s : Ledger) (d : ℕ) (next : Reader) (begun granted : List ℕ) {held
         settle-done {h} {f} ep ehs eh' efs ef el =
             let carry = ep ∙ ap (λ (m : List ℕ). row (λ p. chargedTo p (charges m)) 14 0) (carry-part next) in
             let one : h ≡ flattened (rows (settledHeld d (nested (s .held)) begun granted)) = eh' ∙ ap flattened (ehs ∙ ap (λ (t : List (List ℕ)). rows (settledHeld d t begun granted)) eh) in
-            let two : f ≡ flattened (rows (settledOpen d (nested (s .opened)) (row (λ p. chargedTo p (charges (carried next))) 14 0))) =
+            let two : f ≡ flattened (rows (settledOpen d (nested (s .opened)) (row (λ p. chargedTo p (charges (bytesIn next))) 14 0))) =
             ef ∙ ap flattened (efs ∙ ap₂ (λ (t : List (List ℕ)) (x : List ℕ). rows (settledOpen d t x)) eo carry) in
             rw (book-verdict ∙ fine) (ap (λ (x : Ledger). record { ledger = x; answer = answer.Accepted }) (el ∙ ap₂ (entered s d next) one two))
 
@@ -185,9 +185,9 @@ module _ (s : Ledger) (d : ℕ) (c : List ℕ) where
       reads : Pass state
       reads = sound-pass state (sym judge-verdict ∙ j)
 
-      -- the next reader's carry is short
-      pub next-short : {q : Reader} → q ≡ nextReader (readerOf s d) c → q .len ≤ 100
-      next-short {q} e = valid-short q (ap readerOk e ∙ next-valid (readerOf s d) c j)
+      -- the next carry is short
+      pub next-short : {k : Carry} → k ≡ nextReader (readerOf s d) c .carry → k .len ≤ 100
+      next-short e = rw e (valid-short (nextReader (readerOf s d) c) (next-valid (readerOf s d) c j))
 
       -- 14 by the messages that start
       module _ {r : Receiver} (er : r ≡ receiverOf s d) {w : ℕ} (ew : w ≡ msgStart (formatOf (s .format)) c) {t : Tally} (counted : t ≡ begunTally r c w) where
@@ -236,7 +236,7 @@ module _ (s : Ledger) (d : ℕ) (c : List ℕ) where
               audit-refused (entry-sound ∙ skip state (messages ++ (grants ++ pools)) reads ∙ skip messages (grants ++ pools) begun-pass ∙ sym (stops-before grants pools granted-verdict e) ∙ e) ex
 
           -- then 15 and 16
-          pub audit-settles : u .verdict ≡ Sound → {next : Reader} → next ≡ nextReader (readerOf s d) c → {x : Step} → x ≡ settling s d next (t .counts) (u .counts) → x ≡ auditing s d c
+          pub audit-settles : u .verdict ≡ Sound → {next : Carry} → next ≡ nextReader (readerOf s d) c .carry → {x : Step} → x ≡ settling s d next (t .counts) (u .counts) → x ≡ auditing s d c
           audit-settles e en ex =
               ex ∙ (λ i. settling s d (en i) (begun-counts sound i) (granted-counts e i))
               ∙ sym (settles s d c h v n reads begun-pass (sound-pass grants (sym granted-verdict ∙ e)))

@@ -22,7 +22,8 @@ use Rattle.container.specs.Grants.{grantOf, headerGrant}
 use Rattle.container.specs.declared.grant.Grant.{Grant}
 use Rattle.placement.specs.Cells.{cells, carryAfter, endings, startings}
 use Rattle.placement.specs.Checking.{granuleChecks, groupChecks, containerChecks}
-use Rattle.reader.specs.Reading.{carried, readerWith, stateChecks, judgeChecks, nextReader}
+use Rattle.reader.specs.Reading.{carryWith, carried, stateChecks, judgeChecks, nextReader}
+use Rattle.reader.specs.declared.carry.Carry.{Carry}
 use Rattle.reader.specs.declared.reader.Reader.{Reader}
 use Rattle.reader.specs.declared.reader.Judgement.the-variants as judgement
 use Rattle.reader.proofs.AnswerLaws.{judge-state, judge-sound, judged-accepted}
@@ -104,16 +105,16 @@ module _ (s : Ledger) (d : ℕ) (c : List ℕ) (b : d < 2) (ok : ledgerOk s ≡ 
   valid : ValidDirection s d
   valid = ledger-valid s d ok b
 
-  len-none : r .len ≡ 0
-  len-none = eqb-true (r .len) 0 (and-left (eqb (r .len) 0) (idleFrom (fm .link) c 0) e)
+  len-none : r .carry .len ≡ 0
+  len-none = eqb-true (r .carry .len) 0 (and-left (eqb (r .carry .len) 0) (idleFrom (fm .link) c 0) e)
 
   carried-none : carried r ≡ []
-  carried-none = ap (λ (k : ℕ). take k (r .carry)) len-none
+  carried-none = ap (λ (k : ℕ). take k (r .carry .bytes)) len-none
 
   -- outside the link header the entry is the container of zeros
   same : (i : ℕ) → i < 256 → fm .link i ≡ false → getD c i 0 ≡ getD blank i 0
   same i k t =
-      idle-exactly (fm .link) c .0 (and-right (eqb (r .len) 0) (idleFrom (fm .link) c 0) e) i (rw n k) t
+      idle-exactly (fm .link) c .0 (and-right (eqb (r .carry .len) 0) (idleFrom (fm .link) c 0) e) i (rw n k) t
       ∙ sym (zeros-at blank (zeros-replicate 256) i)
 
   -- so it passes the reader's checks, grants nothing, and starts nothing
@@ -187,24 +188,23 @@ module _ (s : Ledger) (d : ℕ) (c : List ℕ) (b : d < 2) (ok : ledgerOk s ≡ 
   unfolding paidTo
   open-kept i p = rw (begun-none, finished-none) (pick-both (λ (x : ℕ). x ≡ openOf s i p) (eqb i d) (omega arith) refl)
 
-  module _ (n0 : length (s .carry0) ≡ 100) (n1 : length (s .carry1) ≡ 100) where
-    -- the reader stays as it is
-    reader-kept : nextReader r c ≡ r
+  module _ (n0 : length (s .carry0 .bytes) ≡ 100) (n1 : length (s .carry1 .bytes) ≡ 100) where
+    -- the carry stays as it is
+    carry-kept : nextReader r c .carry ≡ r .carry
     unfolding nextReader
-    reader-kept =
-        let some : length (r .carry) ≡ 100 = pick-both (λ (l : List ℕ). length l ≡ 100) (eqb d 0) n0 n1 in
-        let rest : zeros (r .carry) ≡ true = rw len-none at (reader-ok r (valid .reader) .rest) in
-        let carry : replicate 100 0 ≡ r .carry =
-        ext-getD 0 (replicate 100 0) (r .carry) (sym some) (λ i k. zeros-at (replicate 100 0) (zeros-replicate 100) i ∙ sym (zeros-at (r .carry) rest i)) in
+    carry-kept =
+        let some : length (r .carry .bytes) ≡ 100 = pick-both (λ (k : Carry). length (k .bytes) ≡ 100) (eqb d 0) n0 n1 in
+        let rest : zeros (r .carry .bytes) ≡ true = rw len-none at (reader-ok r (valid .reader) .rest) in
+        let bytes : replicate 100 0 ≡ r .carry .bytes =
+        ext-getD 0 (replicate 100 0) (r .carry .bytes) (sym some) (λ i k. zeros-at (replicate 100 0) (zeros-replicate 100) i ∙ sym (zeros-at (r .carry .bytes) rest i)) in
         let m : carryAfter fm 0 (cells fm c 12 0 (carried r)) (carried r) ≡ [] = rw carried-none (carry-none fm c (sym (read .2)) 12 0) in
-        ap (readerWith (s .format)) m ∙ (λ i. record { format = s .format; carry = carry i; len = sym len-none i })
+        ap carryWith m ∙ (λ i. record { bytes = bytes i; len = sym len-none i })
 
     module _ (nh : length (s .held) ≡ 28) (nw : length (s .opened) ≡ 28) where
       ledger-kept : nextLedger s d c ≡ s
       unfolding nextLedger
       ledger-kept =
-          let carry = chosen (eqb d 0) (s .carry0) (s .carry1) (ap (λ (x : Reader). x .carry) reader-kept) in
-          let len = chosen (eqb d 0) (s .len0) (s .len1) (ap (λ (x : Reader). x .len) reader-kept) in
+          let carry = chosen (eqb d 0) (s .carry0) (s .carry1) carry-kept in
           let held = table-by (heldAfter s d c) (s .held) nh (λ e p h k. held-kept e p) in
           let opened = table-by (openAfter s d c) (s .opened) nw (λ e p h k. open-kept e p) in
           λ i. record {
@@ -212,14 +212,12 @@ module _ (s : Ledger) (d : ℕ) (c : List ℕ) (b : d < 2) (ok : ledgerOk s ≡ 
             receiver0 = s .receiver0;
             receiver1 = s .receiver1;
             carry0 = carry .0 i;
-            len0 = len .0 i;
             carry1 = carry .1 i;
-            len1 = len .1 i;
             held = held i;
             opened = opened i;
           }
 
-pub idle-accepted : (s : Ledger) (d : ℕ) (c : List ℕ) → d < 2 → ledgerOk s ≡ true → length c ≡ 256 → length (s .carry0) ≡ 100 → length (s .carry1) ≡ 100
+pub idle-accepted : (s : Ledger) (d : ℕ) (c : List ℕ) → d < 2 → ledgerOk s ≡ true → length c ≡ 256 → length (s .carry0 .bytes) ≡ 100 → length (s .carry1 .bytes) ≡ 100
     → length (s .held) ≡ 28 → length (s .opened) ≡ 28 → resting s d c ≡ true → auditing s d c ≡ record { ledger = s; answer = answer.Accepted }
 unfolding auditing
 idle-accepted s d c b ok n n0 n1 nh nw e = rw (pass-sound (auditChecks s d c) (audit-pass s d c b ok n e), ledger-kept s d c b ok n e n0 n1 nh nw)

@@ -16,8 +16,8 @@ use Rattle.cause.specs.declared.Verdict.the-variants.{Sound, Faulty}
 use Rattle.cause.specs.declared.Cause.the-variants.{BegunOverGranted}
 use Rattle.cause.proofs.CheckLaws.{pass-sound, first-append}
 use Rattle.message.specs.Charges.{charges}
-use Rattle.reader.specs.Reading.{carried, stateChecks, nextReader}
-use Rattle.reader.specs.declared.reader.Reader.{Reader}
+use Rattle.reader.specs.Reading.{bytesIn, stateChecks, nextReader}
+use Rattle.reader.specs.declared.carry.Carry.{Carry}
 use Rattle.pools.specs.Pools.{allMessages, allGrants, chargedTo, paidTo, grantedTo}
 use Rattle.ledger.specs.Audit.{receiverOf, readerOf, ledgerOk, opposite, begun, granted, heldChecks, roomChecks, auditChecks, heldAfter, openAfter, nextLedger, answerOf, auditing}
 use Rattle.pools.specs.Rows.{row, table, nested, flattened, entryOf, rows}
@@ -89,11 +89,11 @@ module _ (s : Ledger) (d : ℕ) (c : List ℕ) (h : d < 2) where
 
     -- the tables behind an accepted entry
     module _ (a : Accepted s d c) where
-      abbrev next : Reader
-      next = nextReader (readerOf s d) c
+      abbrev next : Carry
+      next = nextReader (readerOf s d) c .carry
 
       abbrev carryRow : List ℕ
-      carryRow = row (λ p. chargedTo p (charges (carried next))) 14 0
+      carryRow = row (λ p. chargedTo p (charges (bytesIn next))) 14 0
 
       held-entry : (e p : ℕ) → e < 2 → p < 14 → settledHeld d (nested (s .held)) paidRow givenRow e p ≡ heldAfter s d c e p
       held-entry e p b k =
@@ -101,7 +101,7 @@ module _ (s : Ledger) (d : ℕ) (c : List ℕ) (h : d < 2) where
 
       own-open : (p : ℕ) → p < 14 → settledOpen d (nested (s .opened)) carryRow d p ≡ openAfter s d c d p
       own-open p k =
-          rw (eq-eqb d d refl) (row-at (λ q. chargedTo q (charges (carried next))) p k)
+          rw (eq-eqb d d refl) (row-at (λ q. chargedTo q (charges (bytesIn next))) p k)
           ∙ sym (open-carried s d c a p k) ∙ open-next s d c d p h k
 
       open-entry : (e p : ℕ) → e < 2 → p < 14 → settledOpen d (nested (s .opened)) carryRow e p ≡ openAfter s d c e p
@@ -120,11 +120,11 @@ module _ (s : Ledger) (d : ℕ) (c : List ℕ) (h : d < 2) where
           sym (ap₂ (entered s d next) (flattened-rows f ∙ table-equal f (heldAfter s d c) held-entry) (flattened-rows g ∙ table-equal g (openAfter s d c) open-entry))
 
     -- so the audit settles it
-    pub settles : auditing s d c ≡ settling s d (nextReader (readerOf s d) c) paidRow givenRow
+    pub settles : auditing s d c ≡ settling s d (nextReader (readerOf s d) c .carry) paidRow givenRow
     unfolding auditing settling
     settles = by (firstFault (auditChecks s d c)) refl (sym book-verdict)
       where
         by : (w : Verdict) → firstFault (auditChecks s d c) ≡ w → firstFault (bookChecks s d paidRow givenRow) ≡ firstFault (auditChecks s d c)
-            → auditing s d c ≡ settling s d (nextReader (readerOf s d) c) paidRow givenRow
+            → auditing s d c ≡ settling s d (nextReader (readerOf s d) c .carry) paidRow givenRow
         by Sound e q = rw (q, e) (ap (λ (l : Ledger). record { ledger = l; answer = answerOf Sound }) (tables (accepted-by s d c e)))
         by (Faulty k p) e q = rw (q, e)

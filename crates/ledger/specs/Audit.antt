@@ -12,7 +12,7 @@ use Rattle.cause.specs.declared.Cause.the-variants.{InvalidState, ContainerLeng
 use Rattle.container.specs.Layout.{formatOf}
 use Rattle.container.specs.declared.grant.Grant.{Grant}
 use Rattle.message.specs.Charges.{charges}
-use Rattle.reader.specs.Reading.{readerOk, carried, stateChecks, nextReader}
+use Rattle.reader.specs.Reading.{carryWith, readerOk, carried, stateChecks, nextReader}
 use Rattle.reader.specs.declared.reader.Reader.{Reader}
 use Rattle.pools.specs.Pools.{receiverOk, messageChecks, chargedTo, paidTo, grantedTo}
 use Rattle.pools.specs.Rows.{table}
@@ -31,8 +31,7 @@ abbrev pub receiverOf : Ledger → ℕ → Receiver
 receiverOf s d = pick (eqb d 0) (s .receiver0) (s .receiver1)
 
 abbrev pub readerOf : Ledger → ℕ → Reader
-readerOf s d =
-    record { format = s .format; carry = pick (eqb d 0) (s .carry0) (s .carry1); len = pick (eqb d 0) (s .len0) (s .len1) }
+readerOf s d = record { format = s .format; carry = pick (eqb d 0) (s .carry0) (s .carry1) }
 
 -- credits held and messages open, of direction d and pool p
 abbrev pub heldOf : Ledger → ℕ → ℕ → ℕ
@@ -107,9 +106,7 @@ nextLedger s d c = record {
   receiver0 = s .receiver0;
   receiver1 = s .receiver1;
   carry0 = pick (eqb d 0) (nextReader (readerOf s d) c .carry) (s .carry0);
-  len0 = pick (eqb d 0) (nextReader (readerOf s d) c .len) (s .len0);
   carry1 = pick (eqb d 0) (s .carry1) (nextReader (readerOf s d) c .carry);
-  len1 = pick (eqb d 0) (s .len1) (nextReader (readerOf s d) c .len);
   held = table (heldAfter s d c);
   opened = table (openAfter s d c);
 }
@@ -135,10 +132,8 @@ freshLedger f a b = record {
   format = f;
   receiver0 = a;
   receiver1 = b;
-  carry0 = replicate 100 0;
-  len0 = 0;
-  carry1 = replicate 100 0;
-  len1 = 0;
+  carry0 = carryWith [];
+  carry1 = carryWith [];
   held = replicate 28 0;
   opened = replicate 28 0;
 }

@@ -9,8 +9,8 @@ use Rattle.cause.specs.Checks.{Check, check, firstFault, whenSound, passes}
 use Rattle.cause.specs.declared.Cause.the-variants.{BegunOverGranted, GrantedOverCapacity}
 use Rattle.container.specs.Layout.{formatOf}
 use Rattle.message.specs.Charges.{charges}
-use Rattle.reader.specs.Reading.{carried}
-use Rattle.reader.specs.declared.reader.Reader.{Reader}
+use Rattle.reader.specs.Reading.{bytesIn, carried}
+use Rattle.reader.specs.declared.carry.Carry.{Carry}
 use Rattle.pools.specs.Pools.{messageChecks, chargedTo}
 use Rattle.pools.specs.Rows.{row, nested, flattened, entryOf, rows}
 use Rattle.ledger.specs.Audit.{receiverOf, readerOf, poolsOk, answerOf}
@@ -50,18 +50,16 @@ pooled s d = passes (firstFault (messageChecks (receiverOf s d) (carried (reader
 
 -- an idle entry: nothing is carried in its direction, and it has nothing but zeros outside the link header
 abbrev pub resting : Ledger → ℕ → List ℕ → Bool
-resting s d c = eqb (readerOf s d .len) 0 && idleFrom (formatOf (s .format) .link) c 0
+resting s d c = eqb (readerOf s d .carry .len) 0 && idleFrom (formatOf (s .format) .link) c 0
 
--- the ledger behind an accepted entry of direction d, by the next reader and the tables of counts
-abbrev pub entered : Ledger → ℕ → Reader → List ℕ → List ℕ → Ledger
+-- the ledger behind an accepted entry of direction d, by the next carry and the tables of counts
+abbrev pub entered : Ledger → ℕ → Carry → List ℕ → List ℕ → Ledger
 entered s d next held opened = record {
   format = s .format;
   receiver0 = s .receiver0;
   receiver1 = s .receiver1;
-  carry0 = pick (eqb d 0) (next .carry) (s .carry0);
-  len0 = pick (eqb d 0) (next .len) (s .len0);
-  carry1 = pick (eqb d 0) (s .carry1) (next .carry);
-  len1 = pick (eqb d 0) (s .len1) (next .len);
+  carry0 = pick (eqb d 0) next (s .carry0);
+  carry1 = pick (eqb d 0) (s .carry1) next;
   held = held;
   opened = opened;
 }
@@ -72,11 +70,11 @@ bookChecks s d begun granted =
     shortChecks (getD (nested (s .held)) d []) begun 14 0
     ++ overChecks (getD (nested (s .held)) (1 - d) []) (getD (nested (s .opened)) (1 - d) []) granted (receiverOf s (1 - d) .capacities) 14 0
 
--- the step of an entry that reads and whose pools exist, by the next reader and what was begun and granted
-unfoldable pub settling : Ledger → ℕ → Reader → List ℕ → List ℕ → Step
+-- the step of an entry that reads and whose pools exist, by the next carry and what was begun and granted
+unfoldable pub settling : Ledger → ℕ → Carry → List ℕ → List ℕ → Step
 settling s d next begun granted = record {
   ledger = whenSound (firstFault (bookChecks s d begun granted))
       (entered s d next (flattened (rows (settledHeld d (nested (s .held)) begun granted)))
-      (flattened (rows (settledOpen d (nested (s .opened)) (row (λ p. chargedTo p (charges (carried next))) 14 0))))) s;
+      (flattened (rows (settledOpen d (nested (s .opened)) (row (λ p. chargedTo p (charges (bytesIn next))) 14 0))))) s;
   answer = answerOf (firstFault (bookChecks s d begun granted));
 }

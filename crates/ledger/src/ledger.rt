@@ -29,6 +29,7 @@ use pools::flatten;
 use pools::nest;
 use pools::tally_begun;
 use pools::tally_granted;
+use reader::Carry;
 use reader::Judgement;
 use reader::Reader;
 use slices::byte_at;
@@ -39,10 +40,8 @@ pub struct Ledger {
     pub format: u32,
     pub receiver0: Receiver,
     pub receiver1: Receiver,
-    pub carry0: [u8; 100],
-    pub len0: usize,
-    pub carry1: [u8; 100],
-    pub len1: usize,
+    pub carry0: Carry,
+    pub carry1: Carry,
     pub held: [u32; 28],
     pub opened: [u32; 28],
 }
@@ -99,14 +98,13 @@ impl Ledger {
     pub fn fresh(format: u32, receiver0: Receiver, receiver1: Receiver) -> Opened
         ensures { λ r. ⌜ r ≡ opening format receiver0 receiver1 ⌝ }
     {
+        let none = Carry::none();
         let ledger = Ledger {
             format: format,
             receiver0: receiver0,
             receiver1: receiver1,
-            carry0: [0u8; 100],
-            len0: 0,
-            carry1: [0u8; 100],
-            len1: 0,
+            carry0: none,
+            carry1: none,
             held: [0u32; 28],
             opened: [0u32; 28],
         };
@@ -139,16 +137,14 @@ impl Ledger {
         if direction == 0 {
             let carry = self.carry0;
             return Reader {
-                format: self.format,
                 carry: carry,
-                len: self.len0,
+                format: self.format,
             };
         }
         let carry = self.carry1;
         Reader {
-            format: self.format,
             carry: carry,
-            len: self.len1,
+            format: self.format,
         }
     }
 
@@ -189,9 +185,9 @@ impl Ledger {
         if !reader.is_valid() {
             return false;
         }
-        let carry = reader.carry;
-        let len = reader.len;
-        self.keeps_pools(direction, receiver, &carry[0..len])
+        let bytes = reader.carry.bytes;
+        let len = reader.carry.len;
+        self.keeps_pools(direction, receiver, &bytes[0..len])
     }
 
     // Whether the ledger is valid.
@@ -212,12 +208,12 @@ impl Ledger {
         ensures { λ r. ⌜ (r ≡ true → unchanged self ≡ auditing self direction (now (container .entry))) ⌝ }
     {
         if direction == 0 {
-            if self.len0 != 0 {
+            if self.carry0.len != 0 {
                 return false;
             }
             return is_idle(self.format, container);
         }
-        if self.len1 != 0 {
+        if self.carry1.len != 0 {
             return false;
         }
         is_idle(self.format, container)
@@ -236,11 +232,28 @@ impl Ledger {
         }
     }
 
+    // The ledger with other carries and tables.
+    fn renew(self, carry0: Carry, carry1: Carry, held: [u32; 28], opened: [u32; 28]) -> Ledger
+        ensures { λ r. ⌜ r ≡ record { format = self .format; receiver0 = self .receiver0; receiver1 = self .receiver1; carry0 = carry0; carry1 = carry1; held = held; opened = opened } ⌝ }
+    {
+        let receiver0 = self.receiver0;
+        let receiver1 = self.receiver1;
+        Ledger {
+            format: self.format,
+            receiver0: receiver0,
+            receiver1: receiver1,
+            carry0: carry0,
+            carry1: carry1,
+            held: held,
+            opened: opened,
+        }
+    }
+
     // The ledger behind an accepted entry.
     fn enter(
         self,
         direction: usize,
-        next: Reader,
+        next: Carry,
         held: [[u32; 14]; 2],
         opened: [[u32; 14]; 2],
     ) -> Ledger
@@ -248,22 +261,16 @@ impl Ledger {
     {
         let credits = flatten(held);
         let messages = flatten(opened);
-        let mut ledger = self;
-        ledger.held = credits;
-        ledger.opened = messages;
-        let carry = next.carry;
         if direction == 0 {
-            ledger.carry0 = carry;
-            ledger.len0 = next.len;
-            return ledger;
+            let carry1 = self.carry1;
+            return self.renew(next, carry1, credits, messages);
         }
-        ledger.carry1 = carry;
-        ledger.len1 = next.len;
-        ledger
+        let carry0 = self.carry0;
+        self.renew(carry0, next, credits, messages)
     }
 
     // 15 and 16 by what the entry began and granted, and the ledger behind it.
-    fn settle(self, direction: usize, next: Reader, begun: [u32; 14], granted: [u32; 14]) -> Step
+    fn settle(self, direction: usize, next: Carry, begun: [u32; 14], granted: [u32; 14]) -> Step
         requires { ⌜ (direction < 2) × (next .len ≤ 100) ⌝ }
         ensures { λ r. ⌜ r ≡ settling self direction next begun granted ⌝ }
     {
@@ -282,9 +289,9 @@ impl Ledger {
         if let Verdict::Faulty(cause, place) = over {
             return self.refuse(cause, place);
         }
-        let carry = next.carry;
+        let bytes = next.bytes;
         let len = next.len;
-        let paid = count_carry(&carry[0..len]);
+        let paid = count_carry(&bytes[0..len]);
         let held_after = settle_held(held, direction, begun, granted);
         let opened_after = settle_opened(opened, direction, paid);
         Step {
@@ -298,13 +305,13 @@ impl Ledger {
         self,
         direction: usize,
         container: &[u8],
-        next: Reader,
+        next: Carry,
         grant: Grant,
         starts: u16,
     ) -> Step
         requires { ⌜ (direction < 2) × (ledgerOk self ≡ true) × (length (now container) ≡ 256) ⌝ }
         requires { ⌜ firstFault (judgeChecks (readerOf self direction) (now container)) ≡ Sound ⌝ }
-        requires { ⌜ next ≡ nextReader (readerOf self direction) (now container) ⌝ }
+        requires { ⌜ next ≡ nextReader (readerOf self direction) (now container) .carry ⌝ }
         requires { ⌜ (grant ≡ headerGrant (formatOf (self .format)) (now container)) × (starts ≡ msgStart (formatOf (self .format)) (now container)) ⌝ }
         ensures { λ r. ⌜ r ≡ auditing self direction (now (container .entry)) ⌝ }
     {
@@ -338,7 +345,7 @@ impl Ledger {
         match judgement {
             Judgement::Refused { cause, place } => self.refuse(cause, place),
             Judgement::Accepted { grant, starts } => {
-                let next = judged.reader;
+                let next = judged.reader.carry;
                 self.audit_read(direction, container, next, grant, starts)
             }
         }

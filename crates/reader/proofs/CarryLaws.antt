@@ -10,8 +10,8 @@ use lib.Dec.{eqb, ltb, leb}
 use lib.Seq.{take-at, drop-at}
 use borrow.Author.Tests.{lt-ltb, le-leb, eq-eqb, ltb-true, leb-false, eqb-true, eqb-false}
 use Rattle.lists.specs.Pick.{pick}
-use Rattle.lists.specs.Parts.{zeros, pad}
-use Rattle.lists.proofs.Tests.{cases, T-true, true-T, and-left, and-right, and-both, or-true, never-both, not-true-false}
+use Rattle.lists.specs.Parts.{zeros}
+use Rattle.lists.proofs.Tests.{cases, T-true, true-T, and-left, and-right, or-true, never-both, not-true-false}
 use Rattle.lists.proofs.PartLaws.{length-zero}
 use Rattle.lists.proofs.ZeroLaws.{zeros-replicate}
 use Rattle.cause.specs.Checks.{Pass, firstFault}
@@ -29,7 +29,7 @@ use Rattle.record.specs.Records.{recordsOf}
 use Rattle.placement.specs.Cells.{Cell, owed, cellAt, message, whole, after, ended, cells, carryAfter, endings, carryOk}
 use Rattle.placement.specs.Checking.{cellChecks, granuleChecks, groupChecks, activationChecks, containerChecks}
 use Rattle.placement.proofs.Keeps.{progress, cellOf, endedTo, KeepsGranule}
-use Rattle.reader.specs.Reading.{carried, readerOk, readerWith, stateChecks, judgeChecks, nextReader}
+use Rattle.reader.specs.Reading.{validCarry, carried, readerOk, readerWith, stateChecks, judgeChecks, nextReader}
 use Rattle.reader.specs.declared.reader.Reader.{Reader}
 use Rattle.placement.proofs.ProgressLaws.{endings-of}
 use Rattle.placement.proofs.KeepsLaws.{granule-exactly}
@@ -253,31 +253,28 @@ granules-pass fm c es p = pass-front (granuleChecks fm 0 es) (groupChecks 4 0 es
 -- a valid reader, test by test
 pub record ValidReader (s : Reader) : Type 0 where
   pub format : ltb (s .format) 2 ≡ true
-  pub short : leb (s .len) 100 ≡ true
+  pub short : leb (s .carry .len) 100 ≡ true
   pub carry : carryOk (carried s) ≡ true
-  pub rest : zeros (drop (s .len) (s .carry)) ≡ true
+  pub rest : zeros (drop (s .carry .len) (s .carry .bytes)) ≡ true
 
 pub reader-ok : (s : Reader) → readerOk s ≡ true → ValidReader s
 reader-ok s e =
-    let p = and-right (ltb (s .format) 2) (leb (s .len) 100 && (carryOk (carried s) && zeros (drop (s .len) (s .carry)))) e in
-    let q = and-right (leb (s .len) 100) (carryOk (carried s) && zeros (drop (s .len) (s .carry))) p in
+    let some = carryOk (carried s) in
+    let rest = zeros (drop (s .carry .len) (s .carry .bytes)) in
+    let p = and-right (ltb (s .format) 2) (validCarry (s .carry)) e in
+    let q = and-right (leb (s .carry .len) 100) (some && rest) p in
     record {
-      format = and-left (ltb (s .format) 2) (leb (s .len) 100 && (carryOk (carried s) && zeros (drop (s .len) (s .carry)))) e;
-      short = and-left (leb (s .len) 100) (carryOk (carried s) && zeros (drop (s .len) (s .carry))) p;
-      carry = and-left (carryOk (carried s)) (zeros (drop (s .len) (s .carry))) q;
-      rest = and-right (carryOk (carried s)) (zeros (drop (s .len) (s .carry))) q;
+      format = and-left (ltb (s .format) 2) (validCarry (s .carry)) e;
+      short = and-left (leb (s .carry .len) 100) (some && rest) p;
+      carry = and-left some rest q;
+      rest = and-right some rest q;
     }
 
 -- a reader of a format that carries a valid carry
 pub with-valid : (f : ℕ) (m : List ℕ) → ltb f 2 ≡ true → carryOk m ≡ true → length m ≤ 100 → readerOk (readerWith f m) ≡ true
 with-valid f m e h l =
-    let t : take (length m) (pad 100 m) ≡ m = take-at m (replicate (100 - length m) 0) (length m) refl in
-    let d : drop (length m) (pad 100 m) ≡ replicate (100 - length m) 0 = drop-at m (replicate (100 - length m) 0) (length m) refl in
-    let c : carryOk (take (length m) (pad 100 m)) ≡ true = ap carryOk t ∙ h in
-    let z : zeros (drop (length m) (pad 100 m)) ≡ true = ap zeros d ∙ zeros-replicate (100 - length m) in
-    and-both (ltb f 2) (leb (length m) 100 && (carryOk (take (length m) (pad 100 m)) && zeros (drop (length m) (pad 100 m)))) e
-    (and-both (leb (length m) 100) (carryOk (take (length m) (pad 100 m)) && zeros (drop (length m) (pad 100 m))) (le-leb (length m) 100 l)
-    (and-both (carryOk (take (length m) (pad 100 m))) (zeros (drop (length m) (pad 100 m))) c z))
+    let behind : List ℕ = replicate (100 - length m) 0 in
+    rw (e, le-leb (length m) 100 l, take-at m behind (length m) refl, h, drop-at m behind (length m) refl, zeros-replicate (100 - length m))
 
 -- the reader after a container that is accepted is valid again
 pub next-valid : (s : Reader) (c : List ℕ) → firstFault (judgeChecks s c) ≡ Sound → readerOk (nextReader s c) ≡ true

@@ -9,14 +9,16 @@ use lib.Seq.{length-take-le}
 use lib.Dec.{eqb}
 use borrow.Author.Tests.{eq-eqb, ne-eqb}
 use Rattle.lists.specs.Pick.{pick}
-use Rattle.lists.specs.Parts.{put, pad}
+use Rattle.lists.specs.Parts.{put}
 use Rattle.lists.proofs.PartLaws.{length-put}
 use Rattle.lists.proofs.PutLaws.{put-none, put-more}
 use Rattle.lists.proofs.Fill.{put-zeros}
 use Rattle.slices.proofs.CopyLaws.{copiedInto, copied-whole}
 use Rattle.container.specs.Layout.{Format, formatOf, start, wide, granule}
 use Rattle.container.proofs.Formats.{granule-length}
+use Rattle.reader.specs.Reading.{carryWith}
 use Rattle.reader.specs.TrackingMirror.{gathered}
+use Rattle.reader.specs.declared.carry.Carry.{Carry}
 use Rattle.reader.proofs.TrackCases.{wide-part}
 
 module _ (fm : Format) (c : List ℕ) (s : ℕ) where
@@ -148,13 +150,13 @@ module _ (m : List ℕ) (k at : ℕ) (y l : List ℕ) (kept : k ≤ length m) (f
         ∙ ap (λ (j : ℕ). put (at + j) y (put at x l)) (sym front-length)
         ∙ put-more at x y l (rw front-length (omega arith))
 
--- what is carried on, over zeros: nothing where nothing is owed, and else the message x
-pub carried-none : (n o : ℕ) (x : List ℕ) → o ≡ 0 → replicate n 0 ≡ pad n (pick (eqb o 0) [] x)
-carried-none n o x e = let z : n - 0 ≡ n = omega arith in rw (eq-eqb o 0 e, z)
+-- what is carried on: nothing where nothing is owed, and else the message x, over zeros
+module _ (o : ℕ) (x : List ℕ) where
+  pub carried-none : o ≡ 0 → carryWith [] ≡ carryWith (pick (eqb o 0) [] x)
+  carried-none e = rw (eq-eqb o 0 e)
 
-module _ (n o : ℕ) (x : List ℕ) (some : o ≡ 0 → ⊥) (fits : length (pick (eqb o 0) [] x) ≤ n) where
-  pub carried-fits : 0 + length x ≤ n
-  carried-fits = let h : length x ≤ n = rw (ne-eqb o 0 some) at fits in omega arith
-
-  pub carried-some : (d : List ℕ) → d ≡ put 0 x (replicate n 0) → d ≡ pad n (pick (eqb o 0) [] x)
-  carried-some d q = q ∙ rw (ne-eqb o 0 some) (put-zeros n x)
+  pub carried-some : (o ≡ 0 → ⊥) → (n : ℕ) → n ≡ o + length x → (d : List ℕ) → d ≡ put 0 x (replicate 100 0)
+      → _≡_ {A = Carry} (record { bytes = d; len = n - o }) (carryWith (pick (eqb o 0) [] x))
+  carried-some some n e d q =
+      let k : n - o ≡ length x = omega arith in
+      rw (ne-eqb o 0 some, k, q, put-zeros 100 x)

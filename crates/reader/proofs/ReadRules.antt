@@ -64,19 +64,19 @@ state-exactly s = (to, from)
         let v = reader-ok s e in
         record {
           format = ltb-true (s .format) 2 (v .format);
-          short = leb-true (s .len) 100 (v .short);
+          short = leb-true (s .carry .len) 100 (v .short);
           carry = carry-exactly (carried s) .0 (v .carry);
           behind = λ i l. zero-at (v .rest) i l;
         }
       where
-        zero-at : zeros (drop (s .len) (s .carry)) ≡ true → (i : ℕ) → s .len ≤ i → byte (s .carry) i ≡ 0
+        zero-at : zeros (drop (s .carry .len) (s .carry .bytes)) ≡ true → (i : ℕ) → s .carry .len ≤ i → byte (s .carry .bytes) i ≡ 0
         zero-at z i l =
-            let j : s .len + (i - s .len) ≡ i = omega arith in
-            rw j at (sym (getD-drop (s .len) (s .carry) (i - s .len) 0) ∙ zeros-at (drop (s .len) (s .carry)) z (i - s .len))
+            let j : s .carry .len + (i - s .carry .len) ≡ i = omega arith in
+            rw j at (sym (getD-drop (s .carry .len) (s .carry .bytes) (i - s .carry .len) 0) ∙ zeros-at (drop (s .carry .len) (s .carry .bytes)) z (i - s .carry .len))
 
     from : ValidState s → readerOk s ≡ true
     from v =
-        rw (lt-ltb (s .format) 2 (v .format), le-leb (s .len) 100 (v .short), carry-exactly (carried s) .1 (v .carry), at-zeros (drop (s .len) (s .carry)) (λ i. getD-drop (s .len) (s .carry) i 0 ∙ v .behind (s .len + i) (omega arith)))
+        rw (lt-ltb (s .format) 2 (v .format), le-leb (s .carry .len) 100 (v .short), carry-exactly (carried s) .1 (v .carry), at-zeros (drop (s .carry .len) (s .carry .bytes)) (λ i. getD-drop (s .carry .len) (s .carry .bytes) i 0 ∙ v .behind (s .carry .len + i) (omega arith)))
 
 module _ (s : Reader) (c : List ℕ) (valid : ValidState s) (size : length c ≡ 256) where
   ok : readerOk s ≡ true

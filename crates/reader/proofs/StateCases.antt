@@ -1,4 +1,4 @@
--- A valid state, case by case. Assumes nothing.
+-- A valid carry, case by case. Assumes nothing.
 use Prim.Native.Nat.{ℕ, _-_, _%_, _≤_, _<_}
 use mathlib.Core.Path.{_≡_, _∙_}
 use mathlib.Core.Bool.{Bool, true, false}
@@ -10,8 +10,8 @@ use Rattle.lists.specs.Parts.{zeros}
 use Rattle.lists.proofs.PartLaws.{rest-is}
 use Rattle.message.specs.Heads.{msgSize, wellHeaded}
 use Rattle.placement.specs.Cells.{carryOk}
-use Rattle.reader.specs.Reading.{carried, readerOk}
-use Rattle.reader.specs.declared.reader.Reader.{Reader}
+use Rattle.reader.specs.Reading.{bytesIn, validCarry}
+use Rattle.reader.specs.declared.carry.Carry.{Carry}
 
 -- a carry
 module _ (m : List ℕ) where
@@ -33,21 +33,17 @@ module _ (m : List ℕ) where
           let k : length m < msgSize m = omega arith in
           q ∙ rw (ne-eqb (length m) 0 d, eq-eqb (length m % 20) 0 r, lt-ltb (length m) (msgSize m) k)
 
--- a reader
-module _ (s : Reader) where
-  pub state-format : 2 ≤ s .format → false ≡ readerOk s
-  state-format h = rw (le-ltb (s .format) 2 h)
+-- a carry with what stands behind it
+module _ (k : Carry) where
+  pub valid-long : 100 < k .len → false ≡ validCarry k
+  valid-long h = rw (lt-leb (k .len) 100 h)
 
-  module _ (f : s .format < 2) where
-    pub state-long : 100 < s .len → false ≡ readerOk s
-    state-long h = rw (lt-ltb (s .format) 2 f, lt-leb (s .len) 100 h)
+  module _ (h : k .len ≤ 100) (b : Bool) (eb : b ≡ carryOk (take (k .len - 0) (drop 0 (k .bytes)))) where
+    same-carry : b ≡ carryOk (bytesIn k)
+    same-carry = let z : k .len - 0 ≡ k .len = omega arith in rw z at eb
 
-    module _ (h : s .len ≤ 100) (b : Bool) (eb : b ≡ carryOk (take (s .len - 0) (drop 0 (s .carry)))) where
-      same-carry : b ≡ carryOk (carried s)
-      same-carry = let z : s .len - 0 ≡ s .len = omega arith in rw z at eb
+    pub valid-part : b ≡ false → false ≡ validCarry k
+    valid-part t = rw (le-leb (k .len) 100 h, ← same-carry, t)
 
-      pub state-carry : b ≡ false → false ≡ readerOk s
-      state-carry t = rw (lt-ltb (s .format) 2 f, le-leb (s .len) 100 h, ← same-carry, t)
-
-      pub state-rest : b ≡ true → length (s .carry) ≡ 100 → (z : Bool) → z ≡ zeros (take (100 - s .len) (drop (s .len) (s .carry))) → z ≡ readerOk s
-      state-rest t long z ez = (rw (← long, rest-is (s .carry) (s .len)) at ez) ∙ rw (lt-ltb (s .format) 2 f, le-leb (s .len) 100 h, ← same-carry, t)
+    pub valid-rest : b ≡ true → length (k .bytes) ≡ 100 → (z : Bool) → z ≡ zeros (take (100 - k .len) (drop (k .len) (k .bytes))) → z ≡ validCarry k
+    valid-rest t long z ez = (rw (← long, rest-is (k .bytes) (k .len)) at ez) ∙ rw (le-leb (k .len) 100 h, ← same-carry, t)

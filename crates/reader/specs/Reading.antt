@@ -16,6 +16,7 @@ use Rattle.container.specs.declared.grant.Grant.{Grant}
 use Rattle.record.specs.Records.{recordsOf}
 use Rattle.placement.specs.Cells.{cells, carryAfter, endings, carryOk}
 use Rattle.placement.specs.Checking.{containerChecks}
+use Rattle.reader.specs.declared.carry.Carry.{Carry}
 use Rattle.reader.specs.declared.reader.Reader.{Reader}
 use Rattle.reader.specs.declared.reader.Answer.{Answer}
 use Rattle.reader.specs.declared.reader.Answer.the-variants as answer
@@ -25,17 +26,29 @@ use Rattle.reader.specs.declared.reader.Judgement.the-variants as judgem
 use Rattle.reader.specs.declared.reader.Judged.{Judged}
 use Rattle.reader.specs.declared.reader.Opened.{Opened}
 
+-- the bytes of a carry
+abbrev pub bytesIn : Carry → List ℕ
+bytesIn k = take (k .len) (k .bytes)
+
+-- a valid carry: at most 100 bytes that may be carried, with zeros behind
+abbrev pub validCarry : Carry → Bool
+validCarry k = leb (k .len) 100 && (carryOk (bytesIn k) && zeros (drop (k .len) (k .bytes)))
+
+-- m as a carry, with zeros behind
+abbrev pub carryWith : List ℕ → Carry
+carryWith m = record { bytes = pad 100 m; len = length m }
+
 -- the bytes that a reader carries
 abbrev pub carried : Reader → List ℕ
-carried s = take (s .len) (s .carry)
+carried s = bytesIn (s .carry)
 
--- a valid reader: a format, and a carry of at most 100 bytes with zeros behind
+-- a valid reader: a format, and a valid carry
 abbrev pub readerOk : Reader → Bool
-readerOk s = ltb (s .format) 2 && (leb (s .len) 100 && (carryOk (carried s) && zeros (drop (s .len) (s .carry))))
+readerOk s = ltb (s .format) 2 && validCarry (s .carry)
 
 -- a reader of a format that carries m
 abbrev pub readerWith : ℕ → List ℕ → Reader
-readerWith f m = record { format = f; carry = pad 100 m; len = length m }
+readerWith f m = record { format = f; carry = carryWith m }
 
 -- a reader's start: nothing carried; a format that is none is 19, beside a reader that every step refuses
 abbrev pub opened : ℕ → Opened

@@ -69,6 +69,11 @@ abbrev pub Ending : Format → List ℕ → List ℕ → Track → ℕ → Type 
 Ending fm c m t g =
     0 < t .owed → wide fm g ≡ true → t .owed ≤ 20 → (t .size ≡ length (gatheredMessage fm c m t (g + 1))) × (t .size ≤ 120)
 
+-- a message that goes on behind a container: what is owed and what was read, at most 100 bytes, are its size
+abbrev pub GoingOn : Format → List ℕ → List ℕ → Track → Type 0
+GoingOn fm c m t =
+    0 < t .owed → (t .size ≡ t .owed + length (gatheredMessage fm c m t 12)) × (length (gatheredMessage fm c m t 12) ≤ 100)
+
 -- a mark: 1 populated, 4 a response, 32 a MiscU, 128 an Activation
 abbrev pub markOf : Cell → ℕ
 markOf e = pick (populated e) 1 0 + (4 * starting responses e + (32 * starting miscs e + 128 * starting activations e))

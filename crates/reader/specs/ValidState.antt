@@ -24,11 +24,11 @@ pub record Part (m : List ℕ) : Type 0 where
 pub record ValidState (s : Reader) : Type 0 where
   pub format : s .format < 2
   -- the array has 100 bytes
-  pub short : s .len ≤ 100
+  pub short : s .carry .len ≤ 100
   -- "A valid reader's carry is empty, or .."
   pub carry : (carried s ≡ []) ⊎ Part (carried s)
   -- "with zeros behind"
-  pub behind : (i : ℕ) → s .len ≤ i → byte (s .carry) i ≡ 0
+  pub behind : (i : ℕ) → s .carry .len ≤ i → byte (s .carry .bytes) i ≡ 0
 
 -- what a reader hands out of a container that keeps the rules, and what it carries on
 pub record HandsOut (s : Reader) (c : List ℕ) : Type 0 where

@@ -2,9 +2,11 @@
 ghost use mathlib.Core.Path.{_≡_};
 ghost use Prim.Native.Nat.{_+_, _≤_};
 ghost use lib.ListN.{length};
-ghost use Rattle.lists.specs.Parts.{put, pad};
+ghost use Rattle.lists.specs.Parts.{put};
 ghost use Rattle.container.specs.Layout.{formatOf};
-ghost use Rattle.reader.specs.TrackingMirror.{gathered, gatheredMessage, inProgress};
+ghost use Rattle.reader.specs.Reading.{carryWith};
+ghost use Rattle.reader.specs.TrackingMirror.{gathered, gatheredMessage, inProgress, GoingOn};
+use crate::carry::Carry;
 use crate::track::Track;
 use container::locate_granule;
 use container::measure_granule;
@@ -58,17 +60,19 @@ pub(crate) fn gather_message(
     gather_granules(format, container, from, g - from, out, at + kept);
 }
 
-// What is carried on of the message in progress behind a container, with zeros behind it.
-pub(crate) fn gather_carry(format: u32, container: &[u8], carry: &[u8], track: Track) -> [u8; 100]
+// What is carried on of the message in progress behind a container.
+pub(crate) fn gather_carry(format: u32, container: &[u8], carry: &[u8], track: Track) -> Carry
     requires { ⌜ (length (now container) ≡ 256) × (track .kept ≤ length (now carry)) ⌝ }
-    requires { ⌜ track .from ≤ 12 ⌝ }
-    requires { ⌜ length (inProgress (formatOf format) (now container) (now carry) track 12) ≤ 100 ⌝ }
-    ensures { λ r. ⌜ r ≡ pad 100 (inProgress (formatOf format) (now (container .entry)) (now (carry .entry)) track 12) ⌝ }
+    requires { ⌜ (track .from ≤ 12) × GoingOn (formatOf format) (now container) (now carry) track ⌝ }
+    ensures { λ r. ⌜ r ≡ carryWith (inProgress (formatOf format) (now (container .entry)) (now (carry .entry)) track 12) ⌝ }
 {
-    let mut out = [0u8; 100];
     if track.owed == 0 {
-        return out;
+        return Carry::none();
     }
-    gather_message(format, container, carry, track, 12, &mut out, 0);
-    out
+    let mut bytes = [0u8; 100];
+    gather_message(format, container, carry, track, 12, &mut bytes, 0);
+    Carry {
+        bytes: bytes,
+        len: track.size - track.owed,
+    }
 }

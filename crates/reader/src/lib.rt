@@ -1,4 +1,5 @@
 // Reading containers: judged granule by granule, the finished messages written as records to lent room (document 01, "Placement").
+mod carry;
 mod cell;
 mod gather;
 mod group;
@@ -8,6 +9,7 @@ mod records;
 mod scan;
 mod track;
 
+pub use carry::Carry;
 pub use reader::Answer;
 pub use reader::Judged;
 pub use reader::Judgement;

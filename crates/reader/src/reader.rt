@@ -7,8 +7,8 @@ ghost use Rattle.container.specs.Layout.{formatOf, msgStart};
 ghost use Rattle.placement.specs.Cells.{cells};
 ghost use Rattle.placement.specs.Checking.{granuleChecks};
 ghost use Rattle.reader.specs.Reading.{readerOk, carried, entryChecks, opened, nextReader, reading, readRoom, judging};
-ghost use Rattle.placement.specs.Cells.{carryOk};
 ghost use Rattle.reader.specs.TrackingMirror.{trackOf, trackAt};
+use crate::carry::Carry;
 use crate::gather::gather_carry;
 use crate::judge::judge_container;
 use crate::records::write_endings;
@@ -18,15 +18,11 @@ use cause::Verdict;
 use container::Grant;
 use container::read_grant;
 use container::read_starts;
-use message::is_well_headed;
-use message::measure_message;
-use slices::is_zero;
 
-// A format, and what was read of a message that goes on in the next container, with zeros behind.
+// What is carried, and a format; in this order no unused bytes lie between the two.
 pub struct Reader {
+    pub carry: Carry,
     pub format: u32,
-    pub carry: [u8; 100],
-    pub len: usize,
 }
 
 // The answer of a reading: the length written and the header grant, or the refusal.
@@ -59,31 +55,14 @@ pub struct Opened {
     pub verdict: Verdict,
 }
 
-// Whether bytes may be carried.
-fn is_carry(carry: &[u8]) -> bool
-    ensures { λ r. ⌜ r ≡ carryOk (now (carry .entry)) ⌝ }
-{
-    if carry.len() == 0 {
-        return true;
-    }
-    if carry.len() % 20 != 0 {
-        return false;
-    }
-    if measure_message(carry) <= carry.len() {
-        return false;
-    }
-    is_well_headed(carry)
-}
-
 impl Reader {
     // A reader of a format, with nothing carried.
     pub fn fresh(format: u32) -> Opened
         ensures { λ r. ⌜ r ≡ opened format ⌝ }
     {
         let reader = Reader {
+            carry: Carry::none(),
             format: format,
-            carry: [0u8; 100],
-            len: 0,
         };
         if format < 2 {
             return Opened {
@@ -101,18 +80,11 @@ impl Reader {
     pub fn is_valid(self) -> bool
         ensures { λ r. ⌜ r ≡ readerOk self ⌝ }
     {
-        let len = self.len;
-        let carry = self.carry;
         if 2 <= self.format {
             return false;
         }
-        if 100 < len {
-            return false;
-        }
-        if is_carry(&carry[0..len]) {
-            return is_zero(&carry[len..]);
-        }
-        false
+        let carry = self.carry;
+        carry.is_valid()
     }
 
     // The state and the length of a container: causes 19 and 1.
@@ -136,13 +108,12 @@ impl Reader {
         ensures { λ r. ⌜ r ≡ nextReader self (now (container .entry)) ⌝ }
     {
         let format = self.format;
-        let carry = self.carry;
-        let len = self.len;
-        let next = gather_carry(format, container, &carry[0..len], track);
+        let bytes = self.carry.bytes;
+        let len = self.carry.len;
+        let next = gather_carry(format, container, &bytes[0..len], track);
         Reader {
-            format: format,
             carry: next,
-            len: track.count_read(),
+            format: format,
         }
     }
 
@@ -165,11 +136,11 @@ impl Reader {
         ensures { λ r. ⌜ r ≡ judging self (now (container .entry)) ⌝ }
     {
         let format = self.format;
-        let carry = self.carry;
-        let len = self.len;
+        let bytes = self.carry.bytes;
+        let len = self.carry.len;
         let starts = read_starts(format, container);
         let grant = read_grant(format, container);
-        let scan = judge_container(format, starts, grant, container, &carry[0..len]);
+        let scan = judge_container(format, starts, grant, container, &bytes[0..len]);
         let verdict = scan.verdict;
         if let Verdict::Faulty(cause, place) = verdict {
             return self.refuse_judging(cause, place);
@@ -226,9 +197,9 @@ impl Reader {
             Judgement::Refused { cause, place } => self.refuse(cause, place),
             Judgement::Accepted { grant, starts } => {
                 let format = self.format;
-                let carry = self.carry;
-                let len = self.len;
-                let length = write_endings(format, starts, container, &carry[0..len], room);
+                let bytes = self.carry.bytes;
+                let len = self.carry.len;
+                let length = write_endings(format, starts, container, &bytes[0..len], room);
                 let next = judged.reader;
                 Step {
                     reader: next,

@@ -1,7 +1,7 @@
 // The message in progress, by numbers.
 ghost use mathlib.Core.Path.{_≡_};
-ghost use Prim.Native.Nat.{_<_, _≤_, _-_};
-ghost use lib.Dec.{eqb, leb};
+ghost use Prim.Native.Nat.{_<_, _-_};
+ghost use lib.Dec.{leb};
 ghost use Rattle.lists.specs.Pick.{pick};
 ghost use lib.ListN.{length};
 ghost use Rattle.container.specs.Layout.{formatOf};
@@ -52,17 +52,6 @@ impl Track {
             from: 0,
             kept: kept,
         }
-    }
-
-    // How many bytes of it were read.
-    pub(crate) fn count_read(self) -> usize
-        requires { ⌜ self .owed ≤ self .size ⌝ }
-        ensures { λ r. ⌜ r ≡ pick (eqb (self .owed) 0) 0 (self .size - self .owed) ⌝ }
-    {
-        if self.owed == 0 {
-            return 0;
-        }
-        self.size - self.owed
     }
 
     // One granule less is owed.

@@ -55,7 +55,7 @@ module _ (s : Reader) (c : List ℕ) (n : ℕ) (g : Grant) (e : reading s c 352 
   done-few =
       let k = read-sound-exactly s c 352 .0 (done .0) in
       let r = reader-ok s (k .0) in
-      records-fit (s .format) c (carried s) (k .1) (omega (arith, length-take (s .len) (s .carry), leb-true (s .len) 100 (r .short)))
+      records-fit (s .format) c (carried s) (k .1) (omega (arith, length-take (s .carry .len) (s .carry .bytes), leb-true (s .carry .len) 100 (r .short)))
 
   listed : Listed (records s c)
   unfolding records readChecks stateChecks

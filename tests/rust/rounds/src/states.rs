@@ -31,14 +31,14 @@ fn beginnings(format: u32) -> impl Iterator<Item = [u8; CONTAINER]> {
 /// The fresh reader first, then those that carry a message.
 pub fn readers(format: u32) -> Vec<Reader> {
     let fresh = Reader::fresh(format).reader;
-    let carrying = beginnings(format).map(|container| fresh.judge(&container).reader).filter(|reader| reader.len > 0);
+    let carrying = beginnings(format).map(|container| fresh.judge(&container).reader).filter(|reader| reader.carry.len > 0);
     once(fresh).chain(carrying).collect()
 }
 
 /// A ledger, and those behind it that carry a message in a direction.
 fn behind(ledger: Ledger, direction: u32) -> Vec<Ledger> {
     let next = beginnings(ledger.format).map(|container| ledger.audit(direction, &container).ledger);
-    let carrying = next.filter(|next| [next.len0, next.len1][direction as usize] > 0);
+    let carrying = next.filter(|next| [next.carry0, next.carry1][direction as usize].len > 0);
     once(ledger).chain(carrying).collect()
 }
 

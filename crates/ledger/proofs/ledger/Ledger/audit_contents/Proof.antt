@@ -34,7 +34,7 @@ audit-read-requires c κs =
     let b = start .args .container .now in
     let made : at-judge .judge .result ≡ judging (readerOf s d) b = at-judge .judge .ensures ∙ ap (λ (r : Reader). judging r b) (reader .choose-reader .ensures) in
     let a = judged-accepted (readerOf s d) b (at-judge .judge .result) made _ _ (c .before .before .judgement2 .given .1) in
-    (start .pre, (a .0, (a .3, (a .1, a .2))))
+    (start .pre, (a .0, (ap (λ (r : Reader). r .carry) (a .3), (a .1, a .2))))
 
 returns : tie.Need-returns
 returns c =

@@ -39,14 +39,14 @@ part-keeps-pools-start c = search needs
 part-keeps-pools-end : tie.Need-part-keeps-pools-end
 part-keeps-pools-end c =
     let reader = c .before .before .before .before .choose-reader .result in
-    let long : length (reader .carry) ≡ 100 = search needs in
+    let long : length (reader .carry .bytes) ≡ 100 = search needs in
     let short = valid-short reader (sym (c .before .before .before .is-valid2 .ensures) ∙ not-false _ (c .before .before .if2 .left)) in
     omega arith
 
 keeps-pools-requires : tie.Need-keeps-pools-requires
 keeps-pools-requires c κs =
     let chosen = c .before .before .before .before .before in
-    ((c .before .before .before .before .before .before .before .before .before .pre, c .before .before .before .before .before .before .before .before .choose-receiver .ensures), carry-part (chosen .choose-reader .result) ∙ ap carried (chosen .choose-reader .ensures))
+    ((c .before .before .before .before .before .before .before .before .before .pre, c .before .before .before .before .before .before .before .before .choose-receiver .ensures), carry-part (chosen .choose-reader .result .carry) ∙ ap carried (chosen .choose-reader .ensures))
 
 returns-3 : tie.Need-returns-3
 returns-3 c =

@@ -15,11 +15,10 @@ kept : (c : tie.Start) {t : Bool} → let s = c .args .self in let d = c .args .
     t ≡ resting s d b → (t ≡ resting s d b) × (t ≡ true → unchanged s ≡ auditing s d b)
 kept c e =
     let s = c .args .self in
-    let n0 : length (s .carry0) ≡ 100 = search needs in
-    let n1 : length (s .carry1) ≡ 100 = search needs in
-    let tables = c .good .0 .1 .1 .1 .1 .1 .1 .1 .1 .1 in
-    let nh : length (s .held) ≡ 28 = search (needs, tables .0) in
-    let nw : length (s .opened) ≡ 28 = search (needs, tables .1) in
+    let n0 : length (s .carry0 .bytes) ≡ 100 = search needs in
+    let n1 : length (s .carry1 .bytes) ≡ 100 = search needs in
+    let nh : length (s .held) ≡ 28 = search needs in
+    let nw : length (s .opened) ≡ 28 = search needs in
     (e, λ q. sym (idle-accepted s (c .args .direction) (c .args .container .now) (c .pre .0) (c .pre .1) (c .pre .2) n0 n1 nh nw (sym e ∙ q)))
 
 returns : tie.Need-returns

@@ -66,7 +66,7 @@ part-count-carry-start c = search needs
 part-count-carry-end : tie.Need-part-count-carry-end
 part-count-carry-end c =
     let start = c .before .before .before .before .before .before .before .before .before .before .before .before .before .before in
-    let long : length (start .args .next .carry) ≡ 100 = search needs in
+    let long : length (start .args .next .bytes) ≡ 100 = search needs in
     let short = start .pre .1 in
     omega arith
 

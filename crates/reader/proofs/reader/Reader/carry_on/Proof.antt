@@ -2,7 +2,7 @@
 use mathlib.Core.Path.{_≡_}
 use native.Mathlib.Omega.{arith}
 use lib.ListN.{length}
-use Rattle.reader.proofs.NextLaws.{carry-part, valid-short, next-kept, next-from, next-owed, next-short, next-is}
+use Rattle.reader.proofs.NextLaws.{carry-part, valid-short, next-kept, next-from, next-going, next-is}
 use borrow.Author.Needs.{needs}
 use Rattle.reader.proofs.reader.Reader.carry_on.Statement.{statement}
 use Rattle.reader.proofs.reader.Reader.carry_on.Tie as tie
@@ -16,7 +16,7 @@ part-gather-carry-start c = search needs
 part-gather-carry-end : tie.Need-part-gather-carry-end
 part-gather-carry-end c =
     let start = c .before .before .before in
-    let long : length (start .args .self .carry) ≡ 100 = search needs in
+    let long : length (start .args .self .carry .bytes) ≡ 100 = search needs in
     let short = valid-short (start .args .self) (start .pre .0 .0) in
     omega arith
 
@@ -24,25 +24,19 @@ gather-carry-requires : tie.Need-gather-carry-requires
 gather-carry-requires c κs =
     let start = c .before .before .before .before in
     let s = start .args .self in
-    let b = start .args .container .now in (
-      (start .pre .0 .1, rw (carry-part s) (next-kept s b (start .pre .0 .0) (start .pre .0 .1) (start .args .track) (start .pre .1 .1))),
-      (
-        next-from s b (start .pre .0 .0) (start .pre .0 .1) (start .args .track) (start .pre .1 .1),
-        rw (carry-part s) (next-short s b (start .pre .0 .0) (start .pre .0 .1) (start .args .track) (start .pre .1 .1) (start .pre .1 .0)),
-      ),
-    )
-
-count-read-requires : tie.Need-count-read-requires
-count-read-requires c κs =
-    let start = c .before .before .before .before .before in
-    next-owed (start .args .self) (start .args .container .now) (start .pre .0 .0) (start .pre .0 .1) (start .args .track) (start .pre .1 .1)
+    let b = start .args .container .now in
+    let t = start .args .track in
+    let valid = start .pre .0 .0 in
+    let long = start .pre .0 .1 in
+    let reached = start .pre .1 .1 in
+    rw (carry-part (s .carry)) ((long, next-kept s b valid long t reached), (next-from s b valid long t reached, next-going s b valid long t reached (start .pre .1 .0)))
 
 returns : tie.Need-returns
 returns c =
-    let start = c .before .before .before .before .before .before in
+    let start = c .before .before .before .before .before in
     let s = start .args .self in
     next-is s (start .args .container .now) (start .pre .0 .0) (start .pre .0 .1) (start .args .track) (start .pre .1 .1)
-    (c .before .gather-carry .result) (rw (carry-part s) at (c .before .gather-carry .ensures)) (c .count-read .result) (c .count-read .ensures)
+    (c .gather-carry .result) (rw (carry-part (s .carry)) at (c .gather-carry .ensures))
 
 pub carry-on-spec : {M : Type 1} → statement M
 carry-on-spec =
@@ -52,5 +46,4 @@ carry-on-spec =
     part-gather-carry-start
     part-gather-carry-end
     gather-carry-requires
-    count-read-requires
     returns)

@@ -23,7 +23,7 @@ part-judge-container-start c = search needs
 part-judge-container-end : tie.Need-part-judge-container-end
 part-judge-container-end c =
     let start = c .before .before .before .before .before in
-    let long : length (start .args .self .carry) ≡ 100 = search needs in
+    let long : length (start .args .self .carry .bytes) ≡ 100 = search needs in
     let short = valid-short (start .args .self) (start .pre .0) in
     omega arith
 
@@ -31,7 +31,7 @@ judge-container-requires : tie.Need-judge-container-requires
 judge-container-requires c κs =
     let start = c .before .before .before .before .before .before in
     let s = start .args .self in
-    (start .pre .1, (c .before .before .before .read-starts .ensures, (c .before .before .read-grant .ensures, rw (carry-part s) (valid-begun s (start .pre .0)))))
+    (start .pre .1, (c .before .before .before .read-starts .ensures, (c .before .before .read-grant .ensures, rw (carry-part (s .carry)) (valid-begun s (start .pre .0)))))
 
 enum-known-verdict : tie.Need-enum-known-verdict
 enum-known-verdict c = search needs

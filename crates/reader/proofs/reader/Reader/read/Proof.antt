@@ -70,7 +70,7 @@ part-write-endings-end c =
     let start = c .before .before .before .before .before .before .before .before .before .before .before .before in
     let s = start .args .self in
     let v = sound-entry s (length (start .args .container .now)) (sym (c .before .before .before .before .before .before .before .before .before .check-entry .ensures) ∙ c .before .before .before .before .before .before .before .enum-told .given .1) in
-    let long : length (s .carry) ≡ 100 = search needs in
+    let long : length (s .carry .bytes) ≡ 100 = search needs in
     let short = valid-short s (v .0) in
     omega arith
 
@@ -82,7 +82,7 @@ write-endings-requires c κs =
     let at-judge = c .before .before .before .before .before .before .before in
     let v = sound-entry s (length b) (sym (c .before .before .before .before .before .before .before .before .before .before .before .check-entry .ensures) ∙ c .before .before .before .before .before .before .before .before .before .enum-told .given .1) in
     let a = judged-accepted s b (at-judge .judge-valid .result) (at-judge .judge-valid .ensures) _ _ (c .before .before .before .before .before .judgement2 .given .1) in
-    ((v .1, c .before .before .before .before .before .before .before .before .if1 .left), (a .2, (rw (carry-part s) (valid-carry s (v .0)), rw (carry-part s) (carried-short s (v .0)))))
+    ((v .1, c .before .before .before .before .before .before .before .before .if1 .left), (a .2, (rw (carry-part (s .carry)) (valid-carry s (v .0)), rw (carry-part (s .carry)) (carried-short s (v .0)))))
 
 returns-3 : tie.Need-returns-3
 returns-3 c =

@@ -1,8 +1,8 @@
--- `reader::reader::is_carry` meets its contract.
+-- `reader::carry::is_carry` meets its contract.
 use Rattle.reader.proofs.StateCases.{carry-none, carry-ragged, carry-whole, carry-part}
 use borrow.Author.Needs.{needs}
-use Rattle.reader.proofs.reader.is_carry.Statement.{statement}
-use Rattle.reader.proofs.reader.is_carry.Tie as tie
+use Rattle.reader.proofs.carry.is_carry.Statement.{statement}
+use Rattle.reader.proofs.carry.is_carry.Tie as tie
 
 returns : tie.Need-returns
 returns c = carry-none (c .before .before .args .carry .now) (c .if1 .taken)
