@@ -10,8 +10,8 @@ use lib.Dec.{leb}
 use Rattle.lists.specs.Pick.{pick}
 use Rattle.lists.proofs.PickLaws.{pick-both}
 use Rattle.lists.proofs.Tests.{cases}
-use Rattle.log.specs.Log.{Setting, wrong, set-up, settingOf, Next, over, onward}
-use Rattle.log.specs.Stream.{most, ready, stepped, readFrom, started, startBy, Running, consuming}
+use Rattle.log.specs.Log.{ConfigurationAnswer, misconfigures, configures, configurationAt, Next, over, onward}
+use Rattle.log.specs.Stream.{maxEntries, ready, stepped, readFrom, started, startBy, Running, consuming}
 use Rattle.ledger.specs.declared.ledger.Ledger.{Ledger}
 use Rattle.log.specs.declared.log.LogReader.{LogReader}
 use Rattle.log.specs.declared.log.Consumed.{Consumed}
@@ -21,7 +21,7 @@ use Rattle.log.proofs.CutTheorem.{read-kept, State, bad, new, runs, state-of, a
 
 -- the bytes of the longest log
 abbrev pub mostBytes : ℕ
-mostBytes = 165 + 261 * most
+mostBytes = 165 + 261 * maxEntries
 
 -- reading from byte `at` on adds what it uses
 abbrev Adds : ℕ → LogReader → Consumed → Type 0
@@ -35,7 +35,7 @@ adds-next k ended b at s can (over v) e go = subst (Adds at s) (sym (read-over k
 adds-next k ended b at s can (onward next u) e go =
     let h = go next u in subst (Adds at s) (sym (read-on k ended b at s next u can e)) (omega arith)
 
-read-adds : (k : ℕ) (ended : Bool) (b : List ℕ) (at : ℕ) (s : LogReader) → s .entries + k ≡ most → Adds at s (readFrom k ended b at s)
+read-adds : (k : ℕ) (ended : Bool) (b : List ℕ) (at : ℕ) (s : LogReader) → s .entries + k ≡ maxEntries → Adds at s (readFrom k ended b at s)
 read-adds zero ended b at s few =
     subst (Adds at s) (sym (read-stop zero ended b at s (full-stop (s .entries) (drop at b) ended (omega arith)))) refl
 read-adds (suc k) ended b at s few =
@@ -53,23 +53,23 @@ pub record Counted (s : LogReader) (r : Consumed) : Type 0 where
 running-most : (s : LogReader) → Running s → s .offset ≤ mostBytes
 running-most s run = omega (arith, run .few, run .near)
 
-start-counted : (s : LogReader) (b : List ℕ) (ended : Bool) → s .offset ≡ 0 → (t : Setting) → settingOf b ≡ t
+start-counted : (s : LogReader) (b : List ℕ) (ended : Bool) → s .offset ≡ 0 → (t : ConfigurationAnswer) → configurationAt b ≡ t
     → Counted s (startBy s b ended t)
-start-counted s b ended none (wrong c p) e = record { adds = omega arith; within = λ h. h }
-start-counted s b ended none (set-up ns n) e =
+start-counted s b ended none (misconfigures c p) e = record { adds = omega arith; within = λ h. h }
+start-counted s b ended none (configures ns n) e =
     let up : Running (started ns n) × (n ≤ length b) = started-runs b ns n e in
-    let kept = read-kept most ended b n (started ns n) refl (up .1) (up .0) .running in
-    let added = read-adds most ended b n (started ns n) refl in
-    record { adds = omega arith; within = λ h. running-most (readFrom most ended b n (started ns n) .reader) kept }
+    let kept = read-kept maxEntries ended b n (started ns n) refl (up .1) (up .0) .running in
+    let added = read-adds maxEntries ended b n (started ns n) refl in
+    record { adds = omega arith; within = λ h. running-most (readFrom maxEntries ended b n (started ns n) .reader) kept }
 
 counted-by : (s : LogReader) (b : List ℕ) (ended : Bool) → State s → Counted s (consuming s b ended)
 counted-by s b ended (bad e) = subst (Counted s) (sym (call-bad s b ended e)) (record { adds = omega arith; within = λ h. h })
 counted-by s b ended (new good none) =
     subst (Counted s) (sym (call-start s b ended good none))
-    (pick-both (Counted s) (pick ended true (leb 261 (length b))) (start-counted s b ended none (settingOf b) refl)
+    (pick-both (Counted s) (pick ended true (leb 261 (length b))) (start-counted s b ended none (configurationAt b) refl)
     (record { adds = omega arith; within = λ h. h }))
 counted-by s b ended (runs r) =
-    let k = most - s .entries in
+    let k = maxEntries - s .entries in
     let kept = read-kept k ended b 0 s (all-left s r) (omega arith) r .running in
     let added = read-adds k ended b 0 s (all-left s r) in
     subst (Counted s) (sym (call-running s b ended r))

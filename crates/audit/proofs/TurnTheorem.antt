@@ -11,7 +11,7 @@ use lib.Dec.{eqb}
 use borrow.Author.Tests.{eqb-true, eqb-false, ne-eqb, eq-eqb}
 use Rattle.lists.proofs.Tests.{cases}
 use Rattle.log.specs.Log.{logVerdict}
-use Rattle.log.specs.Stream.{most, consuming, verdictFrom}
+use Rattle.log.specs.Stream.{maxEntries, consuming, verdictFrom}
 use Rattle.log.specs.Cutting.{told}
 use Rattle.log.specs.declared.log.LogReader.{LogReader}
 use Rattle.log.specs.declared.log.LogVerdict.{LogVerdict}
@@ -116,36 +116,36 @@ module _ (s : LogReader) (left window : List ℕ) (r : Turn) (t : Turned s left 
 -- ---- the chain
 
 -- the state and the bytes left stand for all that was read
-turns-verdict : {l left : List ℕ} {s : LogReader} → Turns l s left → (m : List ℕ) → verdictFrom s (left ++ m) ≡ logVerdict most (l ++ m)
+turns-verdict : {l left : List ℕ} {s : LogReader} → Turns l s left → (m : List ℕ) → verdictFrom s (left ++ m) ≡ logVerdict maxEntries (l ++ m)
 turns-verdict none m = fresh-verdict m
 turns-verdict (more {l} {left} {s} ts window r t on) m =
     onward-verdict s left window r t (onward s left window r t on) m
     ∙ turns-verdict ts (t .read ++ m)
-    ∙ ap (logVerdict most) (sym (append-assoc l (t .read) m))
+    ∙ ap (logVerdict maxEntries) (sym (append-assoc l (t .read) m))
 
 -- where the last read gave something, the verdict is that on all that was read with anything behind it
 pub verdict-early : (l : List ℕ) (v : LogVerdict) (j : Judged l v) → (length (j .last .read) ≡ 0 → ⊥) → (m : List ℕ)
-    → v ≡ logVerdict most (l ++ m)
+    → v ≡ logVerdict maxEntries (l ++ m)
 verdict-early l v j some m =
     let read = j .last .read in
     over-verdict (j .s) (j .left) (j .window) (j .r) (j .last) v (j .over) some m
     ∙ turns-verdict (j .turns) (read ++ m)
-    ∙ ap (logVerdict most) (sym (append-assoc (j .before) read m) ∙ ap (λ (x : List ℕ). x ++ m) (sym (j .all)))
+    ∙ ap (logVerdict maxEntries) (sym (append-assoc (j .before) read m) ∙ ap (λ (x : List ℕ). x ++ m) (sym (j .all)))
 
-ended-whole : (l : List ℕ) (v : LogVerdict) (j : Judged l v) → length (j .last .read) ≡ 0 → v ≡ logVerdict most l
+ended-whole : (l : List ℕ) (v : LogVerdict) (j : Judged l v) → length (j .last .read) ≡ 0 → v ≡ logVerdict maxEntries l
 ended-whole l v j empty =
     let read = j .last .read in
     ended-verdict (j .s) (j .left) (j .window) (j .r) (j .last) v (j .over) empty
     ∙ turns-verdict (j .turns) (read ++ [])
-    ∙ ap (logVerdict most) (ap (λ (x : List ℕ). j .before ++ x) (append-nil read) ∙ sym (j .all))
+    ∙ ap (logVerdict maxEntries) (ap (λ (x : List ℕ). j .before ++ x) (append-nil read) ∙ sym (j .all))
 
 -- the verdict is that on all that was read
-pub verdict-whole : (l : List ℕ) (v : LogVerdict) → Judged l v → v ≡ logVerdict most l
+pub verdict-whole : (l : List ℕ) (v : LogVerdict) → Judged l v → v ≡ logVerdict maxEntries l
 verdict-whole l v j =
     let n = length (j .last .read) in
     ⊎-elim
     (λ (e : eqb n 0 ≡ true). ended-whole l v j (eqb-true n 0 e))
-    (λ (e : eqb n 0 ≡ false). verdict-early l v j (eqb-false n 0 e) [] ∙ ap (logVerdict most) (append-nil l))
+    (λ (e : eqb n 0 ≡ false). verdict-early l v j (eqb-false n 0 e) [] ∙ ap (logVerdict maxEntries) (append-nil l))
     (cases (eqb n 0))
 
 -- ---- the turns end

@@ -6,7 +6,7 @@ use mathlib.Core.Logic.{_⊎_}
 use lib.ListN.{length, take}
 use lib.Dec.{eqb}
 use Rattle.lists.specs.Parts.{part}
-use Rattle.cause.specs.declared.Verdict.the-variants.{Sound, Faulty}
+use Rattle.cause.specs.declared.Verdict.the-variants as verdict
 use Rattle.text.specs.Lines.{verdictLine}
 use Rattle.log.specs.Stream.{consuming, freshReader}
 use Rattle.log.specs.declared.log.LogReader.{LogReader}
@@ -69,5 +69,5 @@ Audited Failed = Unit {0}
 
 -- the line that is printed
 abbrev pub logLine : LogVerdict → List ℕ
-logLine (Accepted e) = verdictLine e Sound
-logLine (Refused e c p) = verdictLine e (Faulty c p)
+logLine (Accepted e) = verdictLine e verdict.Accepted
+logLine (Refused e c p) = verdictLine e (verdict.Refused c p)

@@ -116,12 +116,12 @@ fn write_line(verdict: LogVerdict, room: &mut [u8]) -> usize
     ensures room { λ _. ⌜ now (room .exit) ≡ roomOf (logLine verdict) (now (room .entry)) ⌝ }
 {
     match verdict {
-        LogVerdict::Accepted { entries } => write_verdict(entries as u64, Verdict::Sound, room),
+        LogVerdict::Accepted { entries } => write_verdict(entries as u64, Verdict::Accepted, room),
         LogVerdict::Refused {
             entries,
             cause,
             place,
-        } => write_verdict(entries as u64, Verdict::Faulty(cause, place), room),
+        } => write_verdict(entries as u64, Verdict::Refused(cause, place), room),
     }
 }
 

@@ -5,22 +5,22 @@ ghost use Prim.Native.Nat.{_≤_};
 ghost use lib.ListN.{getD};
 ghost use Rattle.ledger.specs.Audit.{ledgerOk};
 ghost use Rattle.ledger.specs.Run.{halted, runOver};
-ghost use Rattle.audit_probe.specs.Audit.{most, receiverFrom, numbersOk, openingFrom, causeOf, placeOf, runFrom, reportFrom, reportNumber};
+ghost use Rattle.audit_probe.specs.Audit.{maxRun, receiverFrom, numbersOk, newLedgerFrom, causeOf, placeOf, runFrom, reportFrom, reportNumber};
 use cause::Cause;
 use cause::Verdict;
 use cause::number_cause;
-use frame::CONTAINER;
+use container::CONTAINER;
 use frame::Framed;
 use frame::frame_entry;
-use ledger::Answer;
+use ledger::Created;
 use ledger::Ledger;
-use ledger::Opened;
 use ledger::Reported;
 use ledger::Run;
+use pools::ROW;
 use pools::Receiver;
 
 // The most entries of a run.
-const MOST: u32 = 4294967295;
+const MAX_RUN: u32 = 4294967295;
 
 // The number at i, 0 behind the end.
 fn number_at(numbers: &[u32], i: usize) -> u32
@@ -37,9 +37,9 @@ fn load_receiver(numbers: &[u32], at: usize) -> Receiver
     requires { ⌜ at ≤ 17 ⌝ }
     ensures { λ r. ⌜ r ≡ receiverFrom (now (numbers .entry)) at ⌝ }
 {
-    let mut capacities = [0u32; 14];
+    let mut capacities = [0u32; ROW];
     let mut p: usize = 0;
-    while p < 14 {
+    while p < ROW {
         capacities[p] = number_at(numbers, at + 2 + p);
         p += 1;
     }
@@ -64,25 +64,25 @@ fn are_numbers(numbers: &[u32]) -> bool
 }
 
 // The fresh ledger of a format and two receivers, and whether they are valid.
-fn load_ledger(numbers: &[u32]) -> Opened
-    ensures { λ r. ⌜ r ≡ openingFrom (now (numbers .entry)) ⌝ }
+fn load_ledger(numbers: &[u32]) -> Created
+    ensures { λ r. ⌜ r ≡ newLedgerFrom (now (numbers .entry)) ⌝ }
 {
     let format = number_at(numbers, 0);
     let receiver0 = load_receiver(numbers, 1);
     let receiver1 = load_receiver(numbers, 17);
-    let opened = Ledger::fresh(format, receiver0, receiver1);
+    let created = Ledger::fresh(format, receiver0, receiver1);
     if are_numbers(numbers) {
-        return opened;
+        return created;
     }
-    let ledger = opened.ledger;
-    Opened {
+    let ledger = created.ledger;
+    Created {
         ledger: ledger,
-        verdict: Verdict::Faulty(Cause::InvalidState, 0),
+        verdict: Verdict::Refused(Cause::InvalidState, 0),
     }
 }
 
 // A run that stops behind so many accepted entries and bytes.
-fn stop_run(ledger: Ledger, accepted: u32, used: usize, answer: Answer) -> Run
+fn stop_run(ledger: Ledger, accepted: u32, used: usize, answer: Verdict) -> Run
     ensures { λ r. ⌜ r ≡ halted ledger accepted used answer ⌝ }
 {
     Run {
@@ -95,41 +95,33 @@ fn stop_run(ledger: Ledger, accepted: u32, used: usize, answer: Answer) -> Run
 
 // A ledger that is refused before any entry.
 fn refuse_run(ledger: Ledger, cause: Cause, place: u64) -> Run
-    ensures { λ r. ⌜ r ≡ halted ledger 0 0 (Answer.Refused cause place) ⌝ }
+    ensures { λ r. ⌜ r ≡ halted ledger 0 0 (Verdict.Refused cause place) ⌝ }
 {
-    stop_run(
-        ledger,
-        0,
-        0,
-        Answer::Refused {
-            cause: cause,
-            place: place,
-        },
-    )
+    stop_run(ledger, 0, 0, Verdict::Refused(cause, place))
 }
 
 // The entries audited by the one call that takes them all.
 fn run_entries(numbers: &[u32], entries: &[u8]) -> Run
     ensures { λ r. ⌜ r ≡ runFrom (now (numbers .entry)) (now (entries .entry)) ⌝ }
 {
-    let opened = load_ledger(numbers);
-    let ledger = opened.ledger;
-    let verdict = opened.verdict;
+    let created = load_ledger(numbers);
+    let ledger = created.ledger;
+    let verdict = created.verdict;
     match verdict {
-        Verdict::Faulty(cause, place) => refuse_run(ledger, cause, place),
-        Verdict::Sound => ledger.audit_entries(entries, MOST),
+        Verdict::Refused(cause, place) => refuse_run(ledger, cause, place),
+        Verdict::Accepted => ledger.audit_entries(entries, MAX_RUN),
     }
 }
 
 // The entries audited by a call each, from a ledger.
 fn run_each(first: Ledger, entries: &[u8]) -> Run
     requires { ⌜ ledgerOk first ≡ true ⌝ }
-    ensures { λ r. ⌜ r ≡ runOver first most (now (entries .entry)) ⌝ }
+    ensures { λ r. ⌜ r ≡ runOver first maxRun (now (entries .entry)) ⌝ }
 {
     let mut ledger = first;
     let mut count: u32 = 0;
     let mut at: usize = 0;
-    while count < MOST {
+    while count < MAX_RUN {
         let framed = frame_entry(&entries[at..]);
         let Framed::Whole {
             number: _,
@@ -137,32 +129,32 @@ fn run_each(first: Ledger, entries: &[u8]) -> Run
             start,
         } = framed
         else {
-            return stop_run(ledger, count, at, Answer::Accepted);
+            return stop_run(ledger, count, at, Verdict::Accepted);
         };
         let begin = at + start;
         let end = begin + CONTAINER;
         let step = ledger.audit(direction as u32, &entries[begin..end]);
         let answer = step.answer;
-        if let Answer::Refused { cause: _, place: _ } = answer {
+        if let Verdict::Refused(_, _) = answer {
             return stop_run(ledger, count, at, answer);
         }
         ledger = step.ledger;
         count += 1;
         at = end;
     }
-    stop_run(ledger, count, at, Answer::Accepted)
+    stop_run(ledger, count, at, Verdict::Accepted)
 }
 
 // The entries audited by a call each, from the ledger of the numbers.
 fn run_calls(numbers: &[u32], entries: &[u8]) -> Run
     ensures { λ r. ⌜ r ≡ runFrom (now (numbers .entry)) (now (entries .entry)) ⌝ }
 {
-    let opened = load_ledger(numbers);
-    let ledger = opened.ledger;
-    let verdict = opened.verdict;
+    let created = load_ledger(numbers);
+    let ledger = created.ledger;
+    let verdict = created.verdict;
     match verdict {
-        Verdict::Faulty(cause, place) => refuse_run(ledger, cause, place),
-        Verdict::Sound => run_each(ledger, entries),
+        Verdict::Refused(cause, place) => refuse_run(ledger, cause, place),
+        Verdict::Accepted => run_each(ledger, entries),
     }
 }
 
@@ -172,8 +164,8 @@ fn tell_cause(run: Run) -> u32
 {
     let answer = run.answer;
     match answer {
-        Answer::Accepted => 0,
-        Answer::Refused { cause, place: _ } => number_cause(cause),
+        Verdict::Accepted => 0,
+        Verdict::Refused(cause, _) => number_cause(cause),
     }
 }
 
@@ -201,8 +193,8 @@ pub extern "C" fn c2c_audit_place(numbers: &[u32], entries: &[u8]) -> u64
     let run = run_entries(numbers, entries);
     let answer = run.answer;
     match answer {
-        Answer::Accepted => 0,
-        Answer::Refused { cause: _, place } => place,
+        Verdict::Accepted => 0,
+        Verdict::Refused(_, place) => place,
     }
 }
 
@@ -228,14 +220,14 @@ pub extern "C" fn c2c_audit_used(numbers: &[u32], entries: &[u8]) -> usize
 fn report_entries(numbers: &[u32], entries: &[u8], direction: u32, pool: u32) -> Reported
     ensures { λ r. ⌜ r ≡ reportFrom (now (numbers .entry)) (now (entries .entry)) direction pool ⌝ }
 {
-    let opened = load_ledger(numbers);
-    let verdict = opened.verdict;
+    let created = load_ledger(numbers);
+    let verdict = created.verdict;
     match verdict {
-        Verdict::Faulty(cause, place) => Reported::Refused {
+        Verdict::Refused(cause, place) => Reported::Refused {
             cause: cause,
             place: place,
         },
-        Verdict::Sound => {
+        Verdict::Accepted => {
             let run = run_entries(numbers, entries);
             let ledger = run.ledger;
             ledger.report(direction, pool)
@@ -256,6 +248,6 @@ pub extern "C" fn c2c_audit_report(
     let reported = report_entries(numbers, entries, direction, pool);
     match reported {
         Reported::Refused { cause, place: _ } => number_cause(cause) as u64 * 281474976710656,
-        Reported::Counted { held, opened } => { (held.0 as u64) * 4294967296 + (opened.0 as u64) }
+        Reported::Accepted { held, opened } => { (held.0 as u64) * 4294967296 + (opened.0 as u64) }
     }
 }

@@ -27,8 +27,8 @@ pub enum Cause {
 
 // What a list of checks finds: nothing, or the first cause with its place.
 pub enum Verdict {
-    Sound,
-    Faulty(Cause, u64),
+    Accepted,
+    Refused(Cause, u64),
 }
 
 // The number of a cause in the table.

@@ -46,6 +46,13 @@ formatOf f = record {
   link = λ i. pick (eqb f 0) (linkX i) (linkY i);
 }
 
+-- the bytes of a container, and its granules
+abbrev pub containerSize : ℕ
+containerSize = 256
+
+abbrev pub granules : ℕ
+granules = 12
+
 -- granule g starts at byte 64·(g/3, whole part) + 20·(g mod 3)
 abbrev pub start : ℕ → ℕ
 start g = 64 * (g / 3) + 20 * (g % 3)

@@ -4,6 +4,15 @@ ghost use Prim.Native.Nat.{_/_, _%_, _^_};
 ghost use Rattle.container.specs.Layout.{start, formatOf, header, msgStart, bit};
 use slices::byte_at;
 
+// The bytes of a container.
+pub const CONTAINER: usize = 256;
+
+// The granules of a container.
+pub const GRANULES: u8 = 12;
+
+// The bytes of a granule that a longer message goes on in.
+pub const WIDE: usize = 20;
+
 // The first byte of granule g.
 pub fn locate_granule(g: u8) -> usize
     ensures { λ r. ⌜ r ≡ start g ⌝ }
@@ -17,12 +26,12 @@ pub fn measure_granule(format: u32, g: u8) -> usize
     ensures { λ r. ⌜ r ≡ formatOf format .size g ⌝ }
 {
     if format == 0 {
-        return 20;
+        return WIDE;
     }
     match g {
         5 => 16,
         11 => 10,
-        _ => 20,
+        _ => WIDE,
     }
 }
 
@@ -51,7 +60,7 @@ pub fn read_header(format: u32, container: &[u8], i: u8) -> u8
 }
 
 // MsgStart, one bit a granule.
-pub fn read_starts(format: u32, container: &[u8]) -> u16
+pub fn read_msgstart(format: u32, container: &[u8]) -> u16
     ensures { λ r. ⌜ r ≡ msgStart (formatOf format) (now (container .entry)) ⌝ }
 {
     let low = read_header(format, container, 0) as u16;
@@ -60,18 +69,18 @@ pub fn read_starts(format: u32, container: &[u8]) -> u16
 }
 
 // Bit g of MsgStart, as a number.
-pub fn start_bit(starts: u16, g: u8) -> u8
-    ensures { λ r. ⌜ r ≡ starts / 2 ^ g % 2 ⌝ }
+pub fn start_bit(msgstart: u16, g: u8) -> u8
+    ensures { λ r. ⌜ r ≡ msgstart / 2 ^ g % 2 ⌝ }
 {
     if 15 < g {
         return 0;
     }
-    ((starts >> (g as u16)) % 2) as u8
+    ((msgstart >> (g as u16)) % 2) as u8
 }
 
 // Whether bit g of MsgStart is set.
-pub fn starts_at(starts: u16, g: u8) -> bool
-    ensures { λ r. ⌜ r ≡ bit starts g ⌝ }
+pub fn starts_at(msgstart: u16, g: u8) -> bool
+    ensures { λ r. ⌜ r ≡ bit msgstart g ⌝ }
 {
-    start_bit(starts, g) == 1
+    start_bit(msgstart, g) == 1
 }

@@ -12,7 +12,7 @@ use Rattle.demands.proofs.Refusals.{untouched}
 use Rattle.demands.proofs.TableLaws.{table}
 use Rattle.demands.proofs.HostLaws.{hosts}
 use Rattle.demands.proofs.LinkRuleLaws.{link-rules}
-use Rattle.demands.proofs.Books.{closed, reports}
+use Rattle.demands.proofs.Simulation.{closed, reports}
 use Rattle.demands.proofs.LogTap.{log-demand}
 
 pub demand1 : Demand1

@@ -10,7 +10,7 @@ use Rattle.writer.specs.Plan.{plan, cursorLast}
 use Rattle.writer.specs.Laying.{setAll, layCells, containerOf, filled, owesAfter, usedOf}
 use Rattle.writer.specs.Filling.{callChecks, fillFault, filling, fillBytes}
 use Rattle.pools.specs.Pools.{capacitiesOk, allMessages, allGrants, paidTo, grantedTo, grantsIn}
-use Rattle.ledger.specs.Audit.{poolsOk, begun, finished, granted, heldChecks, roomChecks, auditChecks, nextLedger, auditing}
+use Rattle.ledger.specs.Audit.{poolsOk, begun, finished, granted, creditChecks, capacityChecks, auditChecks, nextLedger, auditing}
 use Rattle.pools.specs.Rows.{row}
 use Rattle.feeder.specs.Due.{foundAt}
 use Rattle.feeder.specs.Feeding as feeder
@@ -25,7 +25,7 @@ use Rattle.demands.specs.Service.{Reached}
 use Rattle.demands.specs.Interleaving.{startsBetween, startsLast, Orders}
 
 pub marked : Marked
-unfolding number readNumber faultFrom listFault cells carryAfter endings startings granuleChecks groupChecks containerChecks stateChecks readChecks nextReader records reading plan setAll layCells containerOf filled callChecks fillFault fillBytes capacitiesOk allMessages allGrants paidTo grantedTo grantsIn poolsOk begun finished granted heldChecks roomChecks auditChecks row nextLedger auditing
+unfolding number readNumber faultFrom listFault cells carryAfter endings startings granuleChecks groupChecks containerChecks stateChecks readChecks nextReader records reading plan setAll layCells containerOf filled callChecks fillFault fillBytes capacitiesOk allMessages allGrants paidTo grantedTo grantsIn poolsOk begun finished granted creditChecks capacityChecks auditChecks row nextLedger auditing
 marked = record {
   m1-x = refl;
   m1-y = refl;
@@ -46,7 +46,7 @@ marked = record {
 
 -- short examples of each cause
 pub pinned : Pinned
-unfolding number readNumber faultFrom listFault cells carryAfter endings startings granuleChecks groupChecks containerChecks stateChecks readChecks nextReader records reading plan cursorLast owesAfter usedOf callChecks fillFault filling capacitiesOk allMessages allGrants paidTo grantedTo grantsIn poolsOk begun finished granted heldChecks roomChecks auditChecks row nextLedger auditing
+unfolding number readNumber faultFrom listFault cells carryAfter endings startings granuleChecks groupChecks containerChecks stateChecks readChecks nextReader records reading plan cursorLast owesAfter usedOf callChecks fillFault filling capacitiesOk allMessages allGrants paidTo grantedTo grantsIn poolsOk begun finished granted creditChecks capacityChecks auditChecks row nextLedger auditing
 pinned = record {
   format = refl;
   short = refl;
@@ -107,7 +107,7 @@ beneath = record { under-g5 = refl; under-g5-read = refl; in-x = refl; never-ear
 
 -- the orders in which a start and two grants pass
 pub orders : Orders
-unfolding cells carryAfter endings startings granuleChecks groupChecks containerChecks stateChecks nextReader capacitiesOk allMessages allGrants paidTo grantedTo grantsIn poolsOk begun finished granted heldChecks roomChecks auditChecks row nextLedger auditing
+unfolding cells carryAfter endings startings granuleChecks groupChecks containerChecks stateChecks nextReader capacitiesOk allMessages allGrants paidTo grantedTo grantsIn poolsOk begun finished granted creditChecks capacityChecks auditChecks row nextLedger auditing
 orders = record {
   same-containers = same;
   between = record { accepted = (refl, (refl, (refl, tt))); held = refl; opened = refl; carried = refl };

@@ -6,7 +6,7 @@ use mathlib.Core.Logic.{_↔_}
 use lib.Dec.{ltb}
 use borrow.Author.Tests.{le-ltb, ltb-false}
 use Rattle.cause.specs.declared.Cause.{Cause}
-use Rattle.cause.specs.declared.Verdict.the-variants.{Sound, Faulty}
+use Rattle.cause.specs.declared.Verdict.the-variants.{Accepted, Refused}
 use Rattle.reader.specs.Reading as reader
 use Rattle.writer.specs.Filling as writer
 use Rattle.demands.specs.Faults.{FormatFault, unknown}
@@ -21,14 +21,14 @@ module _ (f : ℕ) where
   row-format : (j q : ℕ) → FormatFault f j q → (j ≡ 19) × (q ≡ 0) × (ltb f 2 ≡ false)
   row-format j q (unknown l) = (refl, refl, le-ltb f 2 l)
 
-  pub reader-refused : (k : Cause) (p : ℕ) → (reader.opened f .verdict ≡ Faulty k p) ↔ Named (FormatFault f) k p
+  pub reader-refused : (k : Cause) (p : ℕ) → (reader.newReader f .verdict ≡ Refused k p) ↔ Named (FormatFault f) k p
   reader-refused k p = verdict-refused (ltb f 2) (FormatFault f) format-row row-format k p
 
-  pub reader-accepted : (reader.opened f .verdict ≡ Sound) ↔ None (FormatFault f)
+  pub reader-accepted : (reader.newReader f .verdict ≡ Accepted) ↔ None (FormatFault f)
   reader-accepted = verdict-accepted (ltb f 2) (FormatFault f) format-row row-format
 
-  pub writer-refused : (k : Cause) (p : ℕ) → (writer.opened f .verdict ≡ Faulty k p) ↔ Named (FormatFault f) k p
+  pub writer-refused : (k : Cause) (p : ℕ) → (writer.newWriter f .verdict ≡ Refused k p) ↔ Named (FormatFault f) k p
   writer-refused k p = verdict-refused (ltb f 2) (FormatFault f) format-row row-format k p
 
-  pub writer-accepted : (writer.opened f .verdict ≡ Sound) ↔ None (FormatFault f)
+  pub writer-accepted : (writer.newWriter f .verdict ≡ Accepted) ↔ None (FormatFault f)
   writer-accepted = verdict-accepted (ltb f 2) (FormatFault f) format-row row-format

@@ -12,26 +12,25 @@ use Rattle.lists.specs.Parts.{IsBytes}
 use Rattle.lists.specs.Pick.{pick}
 use Rattle.lists.proofs.Tests.{cases, never-both, not-true-false, and-left, and-right, and-both, and-false}
 use Rattle.cause.specs.Causes.{causeNumber}
-use Rattle.cause.specs.Checks.{firstFault, whenSound}
+use Rattle.cause.specs.Checks.{firstFault, whenAccepted}
 use Rattle.cause.specs.declared.Cause.{Cause}
 use Rattle.cause.specs.declared.Cause.the-variants.{InvalidState}
 use Rattle.cause.specs.declared.Verdict.{Verdict}
-use Rattle.cause.specs.declared.Verdict.the-variants.{Sound, Faulty}
+use Rattle.cause.specs.declared.Verdict.the-variants.{Accepted, Refused}
 use Rattle.cause.proofs.CauseLaws.{same-number, number-some}
 use Rattle.container.specs.declared.grant.Grant.{Grant}
 use Rattle.reader.specs.Reading.{readerWith, readChecks, judgeChecks, reading, readRoom, judging}
 use Rattle.reader.specs.Reading as reads
 use Rattle.reader.specs.declared.reader.Answer as reader
 use Rattle.reader.specs.declared.reader.Answer.the-variants as read
-use Rattle.reader.specs.declared.reader.Judgement.{Judgement}
-use Rattle.reader.specs.declared.reader.Judgement.the-variants as judge
+use Rattle.reader.specs.declared.reader.JudgeAnswer.{JudgeAnswer}
+use Rattle.reader.specs.declared.reader.JudgeAnswer.the-variants as judge
 use Rattle.reader.proofs.PlaceLaws.{refused-place, judged-place}
 use Rattle.ledger.specs.Audit.{ledgerOk, configured, reported}
 use Rattle.ledger.specs.Run.{halted}
 use Rattle.ledger.specs.RunRules.{RunRule}
 use Rattle.ledger.specs.ValidLedger.{ValidLedger}
 use Rattle.pools.specs.declared.receiver.Receiver.{Receiver}
-use Rattle.ledger.specs.declared.ledger.Answer.the-variants as audit
 use Rattle.ledger.specs.declared.ledger.Reported.the-variants as report
 use Rattle.ledger.proofs.RunRuleLaws.{run-follows}
 use Rattle.ledger.proofs.ValidLedgerLaws.{configured-exactly, ledger-exactly}
@@ -51,7 +50,7 @@ use Rattle.probe.specs.Judge.{judgeCode}
 use Rattle.probe.specs.Judge as judged
 use Rattle.probe.specs.Fill.{grantFrom, writerFrom, answerCode, Small, sized, asked, fillCode, fillTail, fillContainer}
 use Rattle.probe.proofs.FillLaws.{step-small}
-use Rattle.audit_probe.specs.Audit.{most, receiverFrom, numbersOk, runFrom, reportFrom}
+use Rattle.audit_probe.specs.Audit.{maxRun, receiverFrom, numbersOk, runFrom, reportFrom}
 use Rattle.reader.specs.Faults.{ReadFault, JudgeFault}
 use Rattle.writer.specs.Faults.{FillFault}
 use Rattle.cause.specs.Order.{Named, None}
@@ -81,7 +80,7 @@ tells-none k p t = let n = number-some k in let z = t .0 in omega arith
 
 read-told : (a : reader.Answer) → ((j : Cause) (q : ℕ) → a ≡ read.Refused j q → q < 65_536) → (k : Cause) (p : ℕ)
     → Tells 65_536 (check.codeOf a) k p ↔ (a ≡ read.Refused k p)
-read-told (read.Done n g) h k p = (λ t. absurd (tells-none k p t), λ e. let z : _≡_ {A = ℕ} 0 1 = cc in absurd (omega arith))
+read-told (read.Accepted n g) h k p = (λ t. absurd (tells-none k p t), λ e. let z : _≡_ {A = ℕ} 0 1 = cc in absurd (omega arith))
 read-told (read.Refused j q) h k p = (
   λ t. let w = tells-one j k q p (h j q refl) t in ap (λ (i : Cause). read.Refused i q) (w .0) ∙ ap (read.Refused k) (w .1),
   λ e.
@@ -97,9 +96,9 @@ check-refused f c room k p =
     let r = read-refused (readerWith f []) c room k p in
     (λ x. r .0 (t .0 x), λ n. t .1 (r .1 n))
 
-read-zero : (v : Verdict) (n : ℕ) (g : Grant) → check.codeOf (reads.answerOf v n g) ≡ 0 → reads.answerOf v n g ≡ read.Done n g
-read-zero Sound n g e = refl
-read-zero (Faulty j q) n g e = let m = number-some j in absurd (omega arith)
+read-zero : (v : Verdict) (n : ℕ) (g : Grant) → check.codeOf (reads.answerOf v n g) ≡ 0 → reads.answerOf v n g ≡ read.Accepted n g
+read-zero Accepted n g e = refl
+read-zero (Refused j q) n g e = let m = number-some j in absurd (omega arith)
 
 check-accepted : (f : ℕ) (c : List ℕ) (room : ℕ) → (checkCode f c room ≡ 0) ↔ None (ReadFault (readerWith f []) c room)
 unfolding checkCode reading
@@ -107,9 +106,9 @@ check-accepted f c room =
     let r = read-accepted (readerWith f []) c room in
     (λ e. r .0 (read-zero (firstFault (readChecks (readerWith f []) c room)) _ _ e), λ n. ap check.codeOf (r .1 n))
 
-read-room : (v : Verdict) (n : ℕ) (g : Grant) (a b : List ℕ) → (check.codeOf (reads.answerOf v n g) ≡ 0 → ⊥) → whenSound v a b ≡ b
-read-room Sound n g a b h = absurd (h refl)
-read-room (Faulty j q) n g a b h = refl
+read-room : (v : Verdict) (n : ℕ) (g : Grant) (a b : List ℕ) → (check.codeOf (reads.answerOf v n g) ≡ 0 → ⊥) → whenAccepted v a b ≡ b
+read-room Accepted n g a b h = absurd (h refl)
+read-room (Refused j q) n g a b h = refl
 
 check-memory : (f : ℕ) (c room : List ℕ) → (checkCode f c (length room) ≡ 0 → ⊥) → checkRoom f c room ≡ room
 unfolding checkCode checkRoom reading readRoom
@@ -117,7 +116,7 @@ check-memory f c room h = read-room (firstFault (readChecks (readerWith f []) c 
 
 -- ---- `c2c_judge`
 
-judge-told : (a : Judgement) → ((j : Cause) (q : ℕ) → a ≡ judge.Refused j q → q < 65_536) → (k : Cause) (p : ℕ)
+judge-told : (a : JudgeAnswer) → ((j : Cause) (q : ℕ) → a ≡ judge.Refused j q → q < 65_536) → (k : Cause) (p : ℕ)
     → Tells 65_536 (judged.codeOf a) k p ↔ (a ≡ judge.Refused k p)
 judge-told (judge.Accepted g s) h k p = (λ t. absurd (tells-none k p t), λ e. let z : _≡_ {A = ℕ} 0 1 = cc in absurd (omega arith))
 judge-told (judge.Refused j q) h k p = (
@@ -131,13 +130,13 @@ judge-told (judge.Refused j q) h k p = (
 judging-refused : (f : ℕ) (c : List ℕ) (k : Cause) (p : ℕ) → Tells 65_536 (judgeCode f c) k p ↔ Named (JudgeFault (readerWith f []) c) k p
 unfolding judgeCode
 judging-refused f c k p =
-    let t = judge-told (judging (readerWith f []) c .judgement) (λ j q e. let l = judged-place (readerWith f []) c j q e in omega arith) k p in
+    let t = judge-told (judging (readerWith f []) c .answer) (λ j q e. let l = judged-place (readerWith f []) c j q e in omega arith) k p in
     let r = judge-refused (readerWith f []) c k p in
     (λ x. r .0 (t .0 x), λ n. t .1 (r .1 n))
 
-judge-zero : (v : Verdict) (g : Grant) (s : ℕ) → judged.codeOf (reads.judgementOf v g s) ≡ 0 → reads.judgementOf v g s ≡ judge.Accepted g s
-judge-zero Sound g s e = refl
-judge-zero (Faulty j q) g s e = let m = number-some j in absurd (omega arith)
+judge-zero : (v : Verdict) (g : Grant) (s : ℕ) → judged.codeOf (reads.judgeAnswerOf v g s) ≡ 0 → reads.judgeAnswerOf v g s ≡ judge.Accepted g s
+judge-zero Accepted g s e = refl
+judge-zero (Refused j q) g s e = let m = number-some j in absurd (omega arith)
 
 judging-accepted : (f : ℕ) (c : List ℕ) → (judgeCode f c ≡ 0) ↔ None (JudgeFault (readerWith f []) c)
 unfolding judgeCode judging
@@ -186,7 +185,7 @@ module _ (f n : ℕ) (t b l : List ℕ) where
     from-call e j q (CallFault.fill x y z w) = w
 
     answer-told : (a : writer.Answer) (len : ℕ) → Small a len → (k : Cause) (p : ℕ) → Tells 4_294_967_296 (answerCode a len) k p ↔ (a ≡ fill.Refused k p)
-    answer-told (fill.Filled u) len h k p = (
+    answer-told (fill.Accepted u) len h k p = (
       λ x. let m = number-some k in let y = x .0 in let c = h .0 in let d = h .1 in absurd (omega arith),
       λ e. let z : _≡_ {A = ℕ} 0 1 = cc in absurd (omega arith),
     )
@@ -227,14 +226,14 @@ module _ (f n : ℕ) (t b l : List ℕ) where
     row-unsized e j q (CallFault.sizes w) = (refl, refl, refl)
     row-unsized e j q (CallFault.fill x y z w) = absurd (never-both e (sizes-right x y z))
 
-    nineteen : (k : Cause) (p : ℕ) → Tells 4_294_967_296 (19 * 4_294_967_296) k p ↔ (Faulty InvalidState 0 ≡ Faulty k p)
+    nineteen : (k : Cause) (p : ℕ) → Tells 4_294_967_296 (19 * 4_294_967_296) k p ↔ (Refused InvalidState 0 ≡ Refused k p)
     nineteen k p = (
       λ x.
           let c = x .0 in
           let d = x .1 in
           let same : causeNumber InvalidState ≡ causeNumber k = omega arith in
           let place : 0 ≡ p = omega arith in
-          ap (λ (i : Cause). Faulty i 0) (same-number InvalidState k same) ∙ ap (Faulty k) place,
+          ap (λ (i : Cause). Refused i 0) (same-number InvalidState k same) ∙ ap (Refused k) place,
       λ e.
           let x : InvalidState ≡ k = cc in
           let y : 0 ≡ p = cc in
@@ -264,7 +263,7 @@ module _ (f n : ℕ) (t b l : List ℕ) where
   module _ (c : List ℕ) where
     kept-by : (a : writer.Answer) (len : ℕ) → asked f n t b l (length c) .answer ≡ a → Small a len → 4_294_967_296 ≤ answerCode a len
         → (asked f n t b l (length c) .writer .tail ≡ t) × (fillBytes (writerFrom f n t) l (grantFrom b) c ≡ c)
-    kept-by (fill.Filled u) len e h m = let x = h .0 in let y = h .1 in absurd (omega arith)
+    kept-by (fill.Accepted u) len e h m = let x = h .0 in let y = h .1 in absurd (omega arith)
     kept-by (fill.Refused k p) len e h m =
         (ap (λ (w : Writer). w .tail) (untouched .fill-state (writerFrom f n t) l (grantFrom b) c k p e), untouched .fill-memory (writerFrom f n t) l (grantFrom b) c k p e)
 
@@ -325,15 +324,15 @@ module _ (l e : List ℕ) where
       configured-exactly fm first second .1
       (record { format = v .direction0 .reader .format; receiver0 = v .direction0 .receiver; receiver1 = v .direction1 .receiver })
 
-  run-by : Configures l → (t : Bool) → configured fm first second ≡ t → RunRule (ledgerFrom l) most e (runFrom l e)
+  run-by : Configures l → (t : Bool) → configured fm first second ≡ t → RunRule (ledgerFrom l) maxRun e (runFrom l e)
   unfolding runFrom
-  run-by h true q = rw (configures h, q) (run-follows (ledgerFrom l) most e)
+  run-by h true q = rw (configures h, q) (run-follows (ledgerFrom l) maxRun e)
   run-by h false q = rw (configures h, q) (RunRule.invalid (λ v. never-both q (described v)))
 
-  audit-run : Configures l → RunRule (ledgerFrom l) most e (runFrom l e)
+  audit-run : Configures l → RunRule (ledgerFrom l) maxRun e (runFrom l e)
   audit-run h = run-by h (configured fm first second) refl
 
-  audit-numbers : (Configures l → ⊥) → runFrom l e ≡ halted (ledgerFrom l) 0 0 (audit.Refused InvalidState 0)
+  audit-numbers : (Configures l → ⊥) → runFrom l e ≡ halted (ledgerFrom l) 0 0 (Refused InvalidState 0)
   unfolding runFrom
   audit-numbers h = rw (not-true-false (numbersOk l) (λ t. h (numbers t)))
 

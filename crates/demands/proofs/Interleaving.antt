@@ -4,9 +4,9 @@ use mathlib.Core.Path.{_≡_, refl, sym, ap, subst, _∙_}
 use mathlib.Core.Bool.{true}
 use mathlib.Core.List.{List}
 use lib.ListN.{length, getD}
-use Rattle.cause.specs.Checks.{firstFault, whenSound}
+use Rattle.cause.specs.Checks.{firstFault, whenAccepted}
 use Rattle.cause.specs.declared.Verdict.{Verdict}
-use Rattle.cause.specs.declared.Verdict.the-variants.{Sound, Faulty}
+use Rattle.cause.specs.declared.Verdict.the-variants.{Accepted, Refused}
 use Rattle.reader.specs.declared.reader.Reader.{Reader}
 use Rattle.ledger.specs.Audit.{receiverOf, readerOf, heldOf, openOf, ledgerOk, configured, auditChecks, nextLedger, auditing, heldAfter, openAfter, reported}
 use Rattle.log.specs.Log.{receiverAt, ledgerOf}
@@ -19,7 +19,7 @@ use Rattle.ledger.proofs.CallLaws.{behind-valid}
 use Rattle.ledger.proofs.TableSelf.{length-table, table-equal}
 use Rattle.history.specs.Trace.{Trace, start, _▷_}
 use Rattle.history.specs.Link.{Direction, direction0, direction1, numberOf}
-use Rattle.history.specs.Books.{containersOf}
+use Rattle.history.specs.Bounds.{containersOf}
 use Rattle.history.specs.Calls.{Call, Auditor, after}
 use Rattle.history.specs.Audit.{linkAuditor}
 use Rattle.history.specs.Interleaving.{SameContainers, SameReports}
@@ -29,7 +29,7 @@ use Rattle.demands.specs.Tap.{linkOf, heldIn, openIn, auditorOf}
 use Rattle.demands.specs.LogTap.{tapOf}
 use Rattle.demands.specs.Interleaving.{SameEnd, SameTraffic, lastLedger, Interleaving}
 use Rattle.demands.proofs.TapLaws.{lawful}
-use Rattle.demands.proofs.Books.{number-below, of-number, reported-held, reported-open, Related, simulates}
+use Rattle.demands.proofs.Simulation.{number-below, of-number, reported-held, reported-open, Related, simulates}
 use Rattle.demands.proofs.LogTap.{ran, valid-by}
 
 -- both tables of a ledger have 28 entries
@@ -40,9 +40,9 @@ next-long : (l : Ledger) (n : ℕ) (c : List ℕ) → Long l → Long (auditing 
 unfolding auditing nextLedger
 next-long l n c h = by (firstFault (auditChecks l n c))
   where
-    by : (v : Verdict) → Long (whenSound v (nextLedger l n c) l)
-    by Sound = (length-table (heldAfter l n c), length-table (openAfter l n c))
-    by (Faulty k p) = h
+    by : (v : Verdict) → Long (whenAccepted v (nextLedger l n c) l)
+    by Accepted = (length-table (heldAfter l n c), length-table (openAfter l n c))
+    by (Refused k p) = h
 
 ledger-alike : (l m : Ledger) → l .format ≡ m .format → l .receiver0 ≡ m .receiver0 → l .receiver1 ≡ m .receiver1 → SameEnd l m → l ≡ m
 ledger-alike l m f a b s = λ i. record {

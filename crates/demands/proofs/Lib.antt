@@ -5,7 +5,7 @@ pub mod HostLaws
 pub mod Packing
 pub mod TapLaws
 pub mod LinkRuleLaws
-pub mod Books
+pub mod Simulation
 pub mod LogTap
 pub mod Demands
 pub mod Interleaving

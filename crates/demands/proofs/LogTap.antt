@@ -9,6 +9,7 @@ use mathlib.Core.Logic.{⊎-elim, inl, inr}
 use mathlib.Core.Option.{Option, some}
 use lib.ListN.{getD, drop}
 use Rattle.lists.proofs.Tests.{never-both}
+use Rattle.cause.specs.Checks.{passes}
 use Rattle.cause.specs.declared.Cause.{Cause}
 use Rattle.ledger.specs.Audit.{configured, auditing}
 use Rattle.log.specs.Log.{receiverAt}
@@ -19,7 +20,6 @@ use Rattle.ledger.specs.Calls.Enters.{none, next}
 use Rattle.log.specs.WholeLog.{BegunLog, RefusedLog}
 use Rattle.pools.specs.declared.receiver.Receiver.{Receiver}
 use Rattle.ledger.specs.declared.ledger.Ledger.{Ledger}
-use Rattle.ledger.specs.declared.ledger.Answer.the-variants.{Refused}
 use Rattle.ledger.proofs.ValidLedgerLaws.{configured-exactly}
 use Rattle.log.proofs.WholeLogLaws.{accepted-only, begun-before, refused-only}
 use Rattle.history.specs.Trace.{Trace, start, _▷_, whole}
@@ -27,9 +27,10 @@ use Rattle.history.specs.Link.{Direction, directionOf, Link}
 use Rattle.history.specs.History.{Entry, Tapped}
 use Rattle.history.specs.Calls.{Call, Auditor, note, after, accepted, Admits}
 use Rattle.history.proofs.Calls.{direction-is}
-use Rattle.demands.specs.Tap.{linkOf, accepting, auditorOf}
+use Rattle.demands.specs.Tap.{linkOf, auditorOf}
 use Rattle.demands.specs.LogTap.{tapOf, linkAt, LogTapped, LogNotTapped, LogDemand}
-use Rattle.demands.proofs.Books.{of-number, closed}
+use Rattle.demands.proofs.Simulation.{of-number, closed}
+use Rattle.cause.specs.declared.Verdict.the-variants.{Refused}
 
 -- the entries of a log have a direction
 abbrev Sided : List log.Entry → Type 0
@@ -68,7 +69,7 @@ module _ (f : ℕ) (a b : Receiver) (v : configured f a b ≡ true) where
   all-more xs [] h t = t
   all-more xs (e ∷ es) h t =
       let x : Call (List ℕ) = record { number = e .direction; container = e .container } in
-      let q : U .audit (after U xs) x .accepts ≡ true = ap accepting (h .0) in
+      let q : U .audit (after U xs) x .accepts ≡ true = ap passes (h .0) in
       let r : accepted U (xs ▷ x) ≡ note (accepted U xs) (directionOf (e .direction)) (e .container) = rw q in
       subst (λ (t : Trace (Entry (List ℕ))). Tapped K (tapOf t es)) r (all-more (xs ▷ x) es (h .1) (subst (Tapped K) (sym r) (one-more xs x q)))
 
@@ -78,7 +79,7 @@ module _ (f : ℕ) (a b : Receiver) (v : configured f a b ≡ true) where
   ran xs [] h = (xs, refl, refl)
   ran xs (e ∷ es) h =
       let x : Call (List ℕ) = record { number = e .direction; container = e .container } in
-      let q : U .audit (after U xs) x .accepts ≡ true = ap accepting (h .0) in
+      let q : U .audit (after U xs) x .accepts ≡ true = ap passes (h .0) in
       let r : accepted U (xs ▷ x) ≡ note (accepted U xs) (directionOf (e .direction)) (e .container) = rw q in
       let t = ran (xs ▷ x) es (h .1) in
       (t .0, t .1, t .2 ∙ ap (λ (a : Trace (Entry (List ℕ))). tapOf a es) r)
@@ -91,7 +92,7 @@ module _ (f : ℕ) (a b : Receiver) (v : configured f a b ≡ true) where
       let q : directionOf (x .number) ≡ some (d .0) = direction-is (x .number) (d .0) (d .1) in
       let w : Tapped K (accepted U ys ▷ record { direction = d .0; container = x .container }) = subst (λ (o : Option Direction). Tapped K (note (accepted U ys) o (x .container))) q t in
       let y : U .audit (after U ys) x .accepts ≡ true = closed f a b v (ys ▷ x) .accepts-exactly ys x (whole refl) .1 (d .0, d .1, w) in
-      never-both (ap accepting e) y
+      never-both (ap passes e) y
 
 module _ {l : List ℕ} {n : ℕ} (a : BegunLog l n) where
   pub valid-by : configured (getD (a .numbers) 0 0) (receiverAt (a .numbers) 1) (receiverAt (a .numbers) 17) ≡ true

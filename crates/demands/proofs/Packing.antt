@@ -13,20 +13,20 @@ use Rattle.writer.specs.Plan.{plan, cursorOf}
 use Rattle.writer.specs.Laying.{filled, owesAfter, usedOf}
 use Rattle.writer.specs.Filling.{tailOf, fillFault, filling, fillBytes}
 use Rattle.writer.specs.declared.writer.Writer.{Writer}
-use Rattle.writer.specs.declared.writer.Answer.the-variants.{Filled}
-use Rattle.writer.proofs.AnswerLaws.{filling-sound}
+use Rattle.writer.specs.declared.writer.Answer.the-variants.{Accepted}
+use Rattle.writer.proofs.AnswerLaws.{fill-answer-accepted}
 use Rattle.round_trip.proofs.Bound.{within-n, within-2n}
 use Rattle.writer.proofs.LegalLaws.{plan-legal, plan-beneath}
 use Rattle.writer.proofs.OneWayLaws.{one-way-exactly, one-way-only}
 use Rattle.round_trip.proofs.Return.{out-so-far, list-returned}
 use Rattle.demands.specs.Demand2.{Demand2, Laid}
 
-one-way : (w : Writer) (l : List ℕ) (n : Grant) (c : List ℕ) (u : ℕ) → filling w l n (length c) .answer ≡ Filled u → Laid w l n c u
+one-way : (w : Writer) (l : List ℕ) (n : Grant) (c : List ℕ) (u : ℕ) → filling w l n (length c) .answer ≡ Accepted u → Laid w l n c u
 unfolding filling fillBytes filled
 one-way w l n c u e =
     let fm = formatOf (w .format) in
     let t = tailOf w in
-    let r = filling-sound (fillFault w l n (length c)) (usedOf fm n t l) u e in
+    let r = fill-answer-accepted (fillFault w l n (length c)) (usedOf fm n t l) u e in
     let k = one-way-exactly fm n l t (plan fm n l 12 0 (cursorOf t)) u (owesAfter fm n t l) .1 (refl, sym (r .1), refl) in
     record {
       cells = plan fm n l 12 0 (cursorOf t);

@@ -4,7 +4,7 @@ use Rattle.reader.proofs.ReadTable.{read-refused, read-accepted, judge-refused,
 use Rattle.ledger.proofs.AuditTable.{audit-refused, audit-accepted}
 use Rattle.writer.proofs.FillTable.{fill-refused, fill-accepted, list-refused, list-accepted}
 use Rattle.demands.proofs.FormatTable.{reader-refused, reader-accepted, writer-refused, writer-accepted}
-use Rattle.ledger.proofs.LedgerTable.{opening-refused, opening-accepted, report-refused, report-counted}
+use Rattle.ledger.proofs.LedgerTable.{new-ledger-refused, new-ledger-accepted, report-refused, report-counted}
 
 pub table : TableOfCauses
 table = record {
@@ -22,8 +22,8 @@ table = record {
   reader-accepted = reader-accepted;
   writer-refused = writer-refused;
   writer-accepted = writer-accepted;
-  opening-refused = opening-refused;
-  opening-accepted = opening-accepted;
+  new-ledger-refused = new-ledger-refused;
+  new-ledger-accepted = new-ledger-accepted;
   report-refused = report-refused;
   report-counted = report-counted;
 }

@@ -14,8 +14,8 @@ use Rattle.lists.proofs.PickLaws.{pick-both}
 use Rattle.lists.proofs.Tests.{cases, and-left, and-right, and-both}
 use Rattle.cause.specs.Checks.{Pass, firstFault, passes}
 use Rattle.cause.specs.declared.Verdict.{Verdict}
-use Rattle.cause.specs.declared.Verdict.the-variants.{Sound, Faulty}
-use Rattle.cause.proofs.CheckLaws.{sound-pass, pass-sound, pass-front, pass-back, pass-append}
+use Rattle.cause.specs.declared.Verdict.the-variants.{Accepted, Refused}
+use Rattle.cause.proofs.CheckLaws.{accepted-pass, pass-accepted, pass-front, pass-back, pass-append}
 use Rattle.container.specs.declared.grant.Grant.{Grant}
 use Rattle.message.specs.Heads.{typeOf, classOf}
 use Rattle.message.specs.Charges.{charges, resPlane, sharedCrdt, reqPool, datPool, pushPool, oneOf, paidBy, listed}
@@ -35,12 +35,12 @@ use Rattle.demands.specs.Tap.{grantsFrom}
 use Rattle.demands.specs.Tap.{receiverFor, ruleChecks, linkOf}
 
 -- a verdict that passes is sound
-pub passes-sound : (v : Verdict) → passes v ≡ true → v ≡ Sound
-passes-sound Sound e = refl
-passes-sound (Faulty k p) e = let z : _≡_ {A = Bool} false true = e in absurd (let y : _≡_ {A = ℕ} 0 1 = cc in omega arith)
+pub passes-accepted : (v : Verdict) → passes v ≡ true → v ≡ Accepted
+passes-accepted Accepted e = refl
+passes-accepted (Refused k p) e = let z : _≡_ {A = Bool} false true = e in absurd (let y : _≡_ {A = ℕ} 0 1 = cc in omega arith)
 
-pub sound-passes : (v : Verdict) → v ≡ Sound → passes v ≡ true
-sound-passes v e = rw e
+pub accepted-passes : (v : Verdict) → v ≡ Accepted → passes v ≡ true
+accepted-passes v e = rw e
 
 -- a container that reads, rule by rule
 pub record Reads (own other : Receiver) (s : Reader) (c : List ℕ) : Type 0 where
@@ -55,7 +55,7 @@ module _ (own other : Receiver) (s : Reader) (c : List ℕ) where
 
   pub reads-by : test ≡ true → Reads own other s c
   reads-by e =
-      let h = sound-pass (ruleChecks own other s c) (passes-sound (firstFault (ruleChecks own other s c)) (and-right (eqb (length c) 256) (passes (firstFault (ruleChecks own other s c))) e)) in
+      let h = accepted-pass (ruleChecks own other s c) (passes-accepted (firstFault (ruleChecks own other s c)) (and-right (eqb (length c) 256) (passes (firstFault (ruleChecks own other s c))) e)) in
       let b = pass-back (stateChecks s c) (allMessages own (startsIn s c) ++ (allGrants other (grantsFrom s c) ++ [])) h in
       record {
         long = eqb-true (length c) 256 (and-left (eqb (length c) 256) (passes (firstFault (ruleChecks own other s c))) e);
@@ -67,7 +67,7 @@ module _ (own other : Receiver) (s : Reader) (c : List ℕ) where
   pub by-reads : Reads own other s c → test ≡ true
   by-reads r =
       and-both (eqb (length c) 256) (passes (firstFault (ruleChecks own other s c))) (eq-eqb (length c) 256 (r .long))
-      (sound-passes (firstFault (ruleChecks own other s c)) (pass-sound (ruleChecks own other s c)
+      (accepted-passes (firstFault (ruleChecks own other s c)) (pass-accepted (ruleChecks own other s c)
       (pass-append (stateChecks s c) (allMessages own (startsIn s c) ++ (allGrants other (grantsFrom s c) ++ [])) (r .state)
       (pass-append (allMessages own (startsIn s c)) (allGrants other (grantsFrom s c) ++ []) (r .messages)
       (pass-append (allGrants other (grantsFrom s c)) [] (r .grants) tt)))))
@@ -182,7 +182,7 @@ module _ (f : ℕ) (a b : Receiver) (v : configured f a b ≡ true) where
   unfolding judgeChecks
   next-ok d s c k e =
       let r = rules d s c e in
-      let j : firstFault (judgeChecks s c) ≡ Sound = pass-sound (judgeChecks s c) (state-reader d s k, (eq-eqb (length c) 256 (r .long), r .state)) in
+      let j : firstFault (judgeChecks s c) ≡ Accepted = pass-accepted (judgeChecks s c) (state-reader d s k, (eq-eqb (length c) 256 (r .long), r .state)) in
       and-both (readerOk (nextReader s c)) (passes (firstFault (messageChecks (receiverFor a b d) (carried (nextReader s c))))) (next-valid s c j)
       (next-passes s c (state-reader d s k) (r .long) (r .state) (receiverFor a b d) (state-passes d s k) (r .messages))
 
@@ -191,7 +191,7 @@ module _ (f : ℕ) (a b : Receiver) (v : configured f a b ≡ true) where
       let r = rules d s c e in
       let n = none-lost d s c p k e in
       let x = paid-none (receiverFor a b d) (receiver-valid d) p h (startsIn s c) (r .messages) in
-      let m = paid-past (receiverFor a b d) (receiver-valid d) p h (carried s) (sound-pass (messageChecks (receiverFor a b d) (carried s)) (passes-sound (firstFault (messageChecks (receiverFor a b d) (carried s))) (state-passes d s k))) in
+      let m = paid-past (receiverFor a b d) (receiver-valid d) p h (carried s) (accepted-pass (messageChecks (receiverFor a b d) (carried s)) (passes-accepted (firstFault (messageChecks (receiverFor a b d) (carried s))) (state-passes d s k))) in
       omega arith
 
   pub lawful : Lawful (linkOf f a b)

@@ -8,7 +8,7 @@ use Rattle.reader.specs.Reading.{readerWith, records}
 use Rattle.writer.specs.Filling.{writerWith, filling, fillBytes}
 use Rattle.round_trip.specs.Calls.{zeroGrant}
 use Rattle.writer.specs.declared.writer.Step.{Step}
-use Rattle.writer.specs.declared.writer.Answer.the-variants.{Filled}
+use Rattle.writer.specs.declared.writer.Answer.the-variants.{Accepted}
 use Rattle.demands.specs.Marked.{withBytes}
 
 -- messages whose bytes behind the head are zero
@@ -45,5 +45,5 @@ pub record Beneath : Type 0 where
   -- in Y: an Activation is not taken early; G5 stays empty, and it starts in G7
   pub never-early : filledFrom 1 (dataS ∷ reqL ∷ activation ∷ resp ∷ []) ≡ withBytes ((246, 145) ∷ (247, 1) ∷ (0, 6) ∷ (84, 2) ∷ (148, 10) ∷ (149, 1) ∷ (150, 1) ∷ (168, 3) ∷ [])
   -- in Y: ReqL in G10 goes on in the next container, with a Resp beneath it in G11; all of the list is used, and 20 bytes are owed
-  pub under-g11 : stepFrom 1 (dataS ∷ dataS ∷ reqS ∷ reqL ∷ resp ∷ []) ≡ record { writer = writerWith 1 (replicate 20 0); answer = Filled (length (recordsOf (dataS ∷ dataS ∷ reqS ∷ reqL ∷ resp ∷ []))) }
+  pub under-g11 : stepFrom 1 (dataS ∷ dataS ∷ reqS ∷ reqL ∷ resp ∷ []) ≡ record { writer = writerWith 1 (replicate 20 0); answer = Accepted (length (recordsOf (dataS ∷ dataS ∷ reqS ∷ reqL ∷ resp ∷ []))) }
   pub under-g11-bytes : filledFrom 1 (dataS ∷ dataS ∷ reqS ∷ reqL ∷ resp ∷ []) ≡ withBytes ((246, 17) ∷ (247, 14) ∷ (0, 6) ∷ (84, 6) ∷ (192, 1) ∷ (212, 2) ∷ (232, 3) ∷ [])

@@ -8,7 +8,7 @@ use mathlib.Core.Logic.{_↔_}
 use lib.ListN.{length}
 use Rattle.lists.specs.Parts.{IsBytes}
 use Rattle.cause.specs.declared.Cause.{Cause}
-use Rattle.cause.specs.declared.Verdict.the-variants.{Sound, Faulty}
+use Rattle.cause.specs.declared.Verdict.the-variants.{Accepted, Refused}
 use Rattle.container.specs.Layout.{formatOf, msgStart}
 use Rattle.container.specs.Grants.{headerGrant}
 use Rattle.container.specs.declared.grant.Grant.{Grant}
@@ -17,8 +17,8 @@ use Rattle.reader.specs.Reading.{records, reading, readRoom, judging}
 use Rattle.reader.specs.Reading as reader
 use Rattle.reader.specs.declared.reader.Reader.{Reader}
 use Rattle.reader.specs.declared.reader.Answer.the-variants as read
-use Rattle.reader.specs.declared.reader.Judgement.the-variants as judge
-use Rattle.ledger.specs.Audit.{heldOf, openOf, opening, auditing, reported}
+use Rattle.reader.specs.declared.reader.JudgeAnswer.the-variants as judge
+use Rattle.ledger.specs.Audit.{heldOf, openOf, newLedger, auditing, reported}
 use Rattle.ledger.specs.Run.{runOver}
 use Rattle.ledger.specs.RunRules.{RunRule}
 use Rattle.log.specs.Stream.{consuming}
@@ -29,7 +29,6 @@ use Rattle.ledger.specs.declared.entries.Run.{Run}
 use Rattle.log.specs.declared.log.LogReader.{LogReader}
 use Rattle.log.specs.declared.log.Consumed.{Consumed}
 use Rattle.ledger.specs.declared.ledger.Ledger.{Ledger}
-use Rattle.ledger.specs.declared.ledger.Answer.the-variants as audit
 use Rattle.writer.specs.Laying.{usedOf}
 use Rattle.writer.specs.Filling.{tailOf, filling, fillBytes}
 use Rattle.writer.specs.Filling as writer
@@ -42,7 +41,7 @@ use Rattle.feeder.specs.declared.feed.Feed.{Feed}
 use Rattle.feeder.specs.declared.feed.Answer.the-variants as ask
 use Rattle.feeder.specs.declared.feed.Step.{Step}
 use Rattle.reader.specs.Faults.{ReadFault, JudgeFault}
-use Rattle.ledger.specs.Faults.{AuditFault, OpeningFault, ReportFault}
+use Rattle.ledger.specs.Faults.{AuditFault, FreshFault, ReportFault}
 use Rattle.writer.specs.Faults.{ListFault, FillFault}
 use Rattle.demands.specs.Faults.{FormatFault}
 use Rattle.demands.specs.Hosts.{Hosts}
@@ -54,12 +53,12 @@ pub record Untouched : Type 0 where
   pub read-state : (s : Reader) (c room : List ℕ) (k : Cause) (p : ℕ) → reading s c (length room) .answer ≡ read.Refused k p → reading s c (length room) .reader ≡ s
   pub read-memory : (s : Reader) (c room : List ℕ) (k : Cause) (p : ℕ) → reading s c (length room) .answer ≡ read.Refused k p → readRoom s c room ≡ room
   -- the judging entry, which lends no memory
-  pub judge-state : (s : Reader) (c : List ℕ) (k : Cause) (p : ℕ) → judging s c .judgement ≡ judge.Refused k p → judging s c .reader ≡ s
+  pub judge-state : (s : Reader) (c : List ℕ) (k : Cause) (p : ℕ) → judging s c .answer ≡ judge.Refused k p → judging s c .reader ≡ s
   -- the writer, with any list, any grant and any container
   pub fill-state : (w : Writer) (l : List ℕ) (n : Grant) (c : List ℕ) (k : Cause) (p : ℕ) → filling w l n (length c) .answer ≡ fill.Refused k p → filling w l n (length c) .writer ≡ w
   pub fill-memory : (w : Writer) (l : List ℕ) (n : Grant) (c : List ℕ) (k : Cause) (p : ℕ) → filling w l n (length c) .answer ≡ fill.Refused k p → fillBytes w l n c ≡ c
   -- the audit, with any ledger, any direction number and any container; it lends no memory
-  pub audit-state : (s : Ledger) (d : ℕ) (c : List ℕ) (k : Cause) (p : ℕ) → auditing s d c .answer ≡ audit.Refused k p → auditing s d c .ledger ≡ s
+  pub audit-state : (s : Ledger) (d : ℕ) (c : List ℕ) (k : Cause) (p : ℕ) → auditing s d c .answer ≡ Refused k p → auditing s d c .ledger ≡ s
   -- the feeder, with any lists and any feed; a refusal hands out no byte of them
   pub ask-state : (f : ℕ) (responses others : List ℕ) (s : Feed) (w : Waiting) (k : Cause) (p : ℕ) → feeding f responses others s .answer ≡ ask.Refused w k p → feeding f responses others s .feed ≡ s
   pub ask-part : (f : ℕ) (responses others : List ℕ) (s : Feed) (w : Waiting) (k : Cause) (p : ℕ) → feeding f responses others s .answer ≡ ask.Refused w k p → fedPart f responses others s ≡ []
@@ -70,34 +69,34 @@ pub record TableOfCauses : Type 0 where
   -- the reader, with any container and any room
   pub read-refused : (s : Reader) (c : List ℕ) (room : ℕ) (k : Cause) (p : ℕ) → (reading s c room .answer ≡ read.Refused k p) ↔ Named (ReadFault s c room) k p
   pub read-accepted : (s : Reader) (c : List ℕ) (room : ℕ)
-      → (reading s c room .answer ≡ read.Done (length (records s c)) (headerGrant (formatOf (s .format)) c)) ↔ None (ReadFault s c room)
+      → (reading s c room .answer ≡ read.Accepted (length (records s c)) (headerGrant (formatOf (s .format)) c)) ↔ None (ReadFault s c room)
   -- the judging entry
-  pub judge-refused : (s : Reader) (c : List ℕ) (k : Cause) (p : ℕ) → (judging s c .judgement ≡ judge.Refused k p) ↔ Named (JudgeFault s c) k p
+  pub judge-refused : (s : Reader) (c : List ℕ) (k : Cause) (p : ℕ) → (judging s c .answer ≡ judge.Refused k p) ↔ Named (JudgeFault s c) k p
   pub judge-accepted : (s : Reader) (c : List ℕ)
-      → (judging s c .judgement ≡ judge.Accepted (headerGrant (formatOf (s .format)) c) (msgStart (formatOf (s .format)) c)) ↔ None (JudgeFault s c)
+      → (judging s c .answer ≡ judge.Accepted (headerGrant (formatOf (s .format)) c) (msgStart (formatOf (s .format)) c)) ↔ None (JudgeFault s c)
   -- the audit, with any ledger, any direction number and any container
-  pub audit-refused : (s : Ledger) (d : ℕ) (c : List ℕ) (k : Cause) (p : ℕ) → (auditing s d c .answer ≡ audit.Refused k p) ↔ NamedBy (AuditFault s d c) k p
-  pub audit-accepted : (s : Ledger) (d : ℕ) (c : List ℕ) → (auditing s d c .answer ≡ audit.Accepted) ↔ NoneBy (AuditFault s d c)
+  pub audit-refused : (s : Ledger) (d : ℕ) (c : List ℕ) (k : Cause) (p : ℕ) → (auditing s d c .answer ≡ Refused k p) ↔ NamedBy (AuditFault s d c) k p
+  pub audit-accepted : (s : Ledger) (d : ℕ) (c : List ℕ) → (auditing s d c .answer ≡ Accepted) ↔ NoneBy (AuditFault s d c)
   -- the writer, with any list of bytes, any grant and any container
   pub fill-refused : (w : Writer) (l : List ℕ) (n : Grant) (bytes : ℕ) → IsBytes l → (k : Cause) (p : ℕ)
       → (filling w l n bytes .answer ≡ fill.Refused k p) ↔ Named (FillFault w l n bytes) k p
   pub fill-accepted : (w : Writer) (l : List ℕ) (n : Grant) (bytes : ℕ) → IsBytes l
-      → (filling w l n bytes .answer ≡ fill.Filled (usedOf (formatOf (w .format)) n (tailOf w) l)) ↔ None (FillFault w l n bytes)
+      → (filling w l n bytes .answer ≡ fill.Accepted (usedOf (formatOf (w .format)) n (tailOf w) l)) ↔ None (FillFault w l n bytes)
   -- the check of a list of bytes
-  pub list-refused : (l : List ℕ) → IsBytes l → (k : Cause) (p : ℕ) → (listFault l ≡ Faulty k p) ↔ Named (ListFault l) k p
-  pub list-accepted : (l : List ℕ) → IsBytes l → (listFault l ≡ Sound) ↔ None (ListFault l)
+  pub list-refused : (l : List ℕ) → IsBytes l → (k : Cause) (p : ℕ) → (listFault l ≡ Refused k p) ↔ Named (ListFault l) k p
+  pub list-accepted : (l : List ℕ) → IsBytes l → (listFault l ≡ Accepted) ↔ None (ListFault l)
   -- a new reader and a new writer, with any format number
-  pub reader-refused : (f : ℕ) (k : Cause) (p : ℕ) → (reader.opened f .verdict ≡ Faulty k p) ↔ Named (FormatFault f) k p
-  pub reader-accepted : (f : ℕ) → (reader.opened f .verdict ≡ Sound) ↔ None (FormatFault f)
-  pub writer-refused : (f : ℕ) (k : Cause) (p : ℕ) → (writer.opened f .verdict ≡ Faulty k p) ↔ Named (FormatFault f) k p
-  pub writer-accepted : (f : ℕ) → (writer.opened f .verdict ≡ Sound) ↔ None (FormatFault f)
+  pub reader-refused : (f : ℕ) (k : Cause) (p : ℕ) → (reader.newReader f .verdict ≡ Refused k p) ↔ Named (FormatFault f) k p
+  pub reader-accepted : (f : ℕ) → (reader.newReader f .verdict ≡ Accepted) ↔ None (FormatFault f)
+  pub writer-refused : (f : ℕ) (k : Cause) (p : ℕ) → (writer.newWriter f .verdict ≡ Refused k p) ↔ Named (FormatFault f) k p
+  pub writer-accepted : (f : ℕ) → (writer.newWriter f .verdict ≡ Accepted) ↔ None (FormatFault f)
   -- a new ledger, with any format number and any receivers
-  pub opening-refused : (f : ℕ) (a b : Receiver) (k : Cause) (p : ℕ) → (opening f a b .verdict ≡ Faulty k p) ↔ Named (OpeningFault f a b) k p
-  pub opening-accepted : (f : ℕ) (a b : Receiver) → (opening f a b .verdict ≡ Sound) ↔ None (OpeningFault f a b)
+  pub new-ledger-refused : (f : ℕ) (a b : Receiver) (k : Cause) (p : ℕ) → (newLedger f a b .verdict ≡ Refused k p) ↔ Named (FreshFault f a b) k p
+  pub new-ledger-accepted : (f : ℕ) (a b : Receiver) → (newLedger f a b .verdict ≡ Accepted) ↔ None (FreshFault f a b)
   -- the report of any ledger, direction and pool number
   pub report-refused : (s : Ledger) (d p : ℕ) (k : Cause) (q : ℕ) → (reported s d p ≡ report.Refused k q) ↔ Named (ReportFault s d p) k q
   pub report-counted : (s : Ledger) (d p : ℕ)
-      → (reported s d p ≡ report.Counted (record { 0 = heldOf s d p }) (record { 0 = openOf s d p })) ↔ None (ReportFault s d p)
+      → (reported s d p ≡ report.Accepted (record { 0 = heldOf s d p }) (record { 0 = openOf s d p })) ↔ None (ReportFault s d p)
 
 pub record Demand1 : Type 0 where
   -- "A bad one is refused with a cause and a place from the fixed table."
@@ -106,8 +105,8 @@ pub record Demand1 : Type 0 where
   pub untouched : Untouched
   -- a run over at most so many entries, with any ledger and any bytes: the only outcome that its rules allow; with a refusal the ledger is
   -- the one behind the entries accepted before
-  pub run-follows : (s : Ledger) (most : ℕ) (l : List ℕ) → RunRule s most l (runOver s most l)
-  pub run-only : (s : Ledger) (most : ℕ) (l : List ℕ) (r : Run) → RunRule s most l r → r ≡ runOver s most l
+  pub run-follows : (s : Ledger) (limit : ℕ) (l : List ℕ) → RunRule s limit l (runOver s limit l)
+  pub run-only : (s : Ledger) (limit : ℕ) (l : List ℕ) (r : Run) → RunRule s limit l r → r ≡ runOver s limit l
   -- a call of the log in parts, with any state and any bytes, likewise
   pub consume-follows : (s : LogReader) (b : List ℕ) (ended : Bool) → Consumes s b ended (consuming s b ended)
   pub consume-only : (s : LogReader) (b : List ℕ) (ended : Bool) (r : Consumed) → Consumes s b ended r → r ≡ consuming s b ended

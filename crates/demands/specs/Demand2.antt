@@ -19,13 +19,13 @@ use Rattle.placement.specs.Completion.{CarryEnds}
 use Rattle.reader.specs.ValidState.{ValidState, HandsOut}
 use Rattle.reader.specs.Reading.{readerOk, carried, records, reading}
 use Rattle.reader.specs.declared.reader.Reader.{Reader}
-use Rattle.reader.specs.declared.reader.Answer.the-variants.{Done}
+use Rattle.reader.specs.declared.reader.Answer.the-variants as read
 use Rattle.writer.specs.Laying.{containerOf}
 use Rattle.writer.specs.OneWay.{Way, mayStart, mayLie, KeepsWith, KeepsBeneath}
 use Rattle.writer.specs.Filling.{tailOf, writerWith, filling, fillBytes}
 use Rattle.round_trip.specs.Calls.{Filling, FillingLeft, GrantsNothing, UsedUp, AllOut, OutSoFar}
 use Rattle.writer.specs.declared.writer.Writer.{Writer}
-use Rattle.writer.specs.declared.writer.Answer.the-variants.{Filled}
+use Rattle.writer.specs.declared.writer.Answer.the-variants.{Accepted}
 
 -- the twelve cells of a container that an accepted fill of l under n with u bytes used has made of c
 pub record Laid (w : Writer) (l : List ℕ) (n : Grant) (c : List ℕ) (u : ℕ) : Type 0 where
@@ -47,7 +47,7 @@ pub record Demand2 : Type 0 where
   -- "From a valid state and with the room our paper names, a container of either format is read exactly when it keeps the CHI C2C
   -- packing rules as our paper completes them"
   pub read-exactly : (s : Reader) (c : List ℕ) (room : ℕ) → ValidState s → length c ≡ 256 → 352 ≤ room
-      → (reading s c room .answer ≡ Done (length (records s c)) (headerGrant (formatOf (s .format)) c)) ↔ Rules (formatOf (s .format)) (carried s) c
+      → (reading s c room .answer ≡ read.Accepted (length (records s c)) (headerGrant (formatOf (s .format)) c)) ↔ Rules (formatOf (s .format)) (carried s) c
   -- the reader's test of a state is that of the words
   pub valid-exactly : (s : Reader) → (readerOk s ≡ true) ↔ ValidState s
   -- "and its messages come out in order of completion"
@@ -57,7 +57,7 @@ pub record Demand2 : Type 0 where
   pub carried-ends : (s : Reader) (c : List ℕ) → ValidState s → length c ≡ 256 → 0 < length (carried s)
       → CarryEnds (formatOf (s .format)) (carried s) c
   -- "The writer fills each container in the one way the paper fixes."
-  pub one-way : (w : Writer) (l : List ℕ) (n : Grant) (c : List ℕ) (u : ℕ) → filling w l n (length c) .answer ≡ Filled u → Laid w l n c u
+  pub one-way : (w : Writer) (l : List ℕ) (n : Grant) (c : List ℕ) (u : ℕ) → filling w l n (length c) .answer ≡ Accepted u → Laid w l n c u
   -- which is one: no other twelve cells, bytes used or bytes owed go that way
   pub one-way-only : (fm : Format) (n : Grant) (l t : List ℕ) (es es′ : List Cell) (used used′ : ℕ) (owes owes′ : List ℕ) → length es ≡ 12 → length es′ ≡ 12
       → Way fm n l es used owes 0 t 0 → Way fm n l es′ used′ owes′ 0 t 0 → (es ≡ es′) × (used ≡ used′) × (owes ≡ owes′)

@@ -10,7 +10,7 @@ use Rattle.ledger.specs.Audit.{configured, reported}
 use Rattle.pools.specs.declared.receiver.Receiver.{Receiver}
 use Rattle.pools.specs.declared.kinds.Credits.{Credits}
 use Rattle.pools.specs.declared.kinds.Slots.{Slots}
-use Rattle.ledger.specs.declared.ledger.Reported.the-variants.{Counted}
+use Rattle.ledger.specs.declared.ledger.Reported.the-variants.{Accepted}
 use Rattle.history.specs.Trace.{Trace}
 use Rattle.history.specs.Link.{Direction, numberOf}
 use Rattle.history.specs.Calls.{Call, after}
@@ -27,7 +27,7 @@ pub record Demand3 : Type 1 where
   pub books-close : (f : ℕ) (a b : Receiver) → configured f a b ≡ true → (xs : Trace (Call (List ℕ))) → Closed (linkOf f a b) (auditorOf f a b) xs
   -- "At the start and after every call, the audit reports for each direction and pool": no such report is refused
   pub reports : (f : ℕ) (a b : Receiver) → configured f a b ≡ true → (xs : Trace (Call (List ℕ))) (d : Direction) (p : ℕ) → p < 14
-      → (held : Credits) × (opened : Slots) × (reported (after (auditorOf f a b) xs) (numberOf d) p ≡ Counted held opened)
+      → (held : Credits) × (opened : Slots) × (reported (after (auditorOf f a b) xs) (numberOf d) p ≡ Accepted held opened)
   -- "Containers keep the rules above for bytes, heads and placement and these for pools", and what is counted in them is what they pay and
   -- grant
   pub rules : LinkRules

@@ -13,7 +13,6 @@ use Rattle.ledger.specs.Audit.{freshLedger, reported}
 use Rattle.ledger.specs.Run.{halted}
 use Rattle.ledger.specs.RunRules.{RunRule}
 use Rattle.ledger.specs.declared.ledger.Ledger.{Ledger}
-use Rattle.ledger.specs.declared.ledger.Answer.the-variants as audit
 use Rattle.ledger.specs.declared.ledger.Reported.the-variants as report
 use Rattle.feeder.specs.Feeding.{fedPart}
 use Rattle.feeder.specs.declared.found.Waiting.{Waiting}
@@ -22,10 +21,11 @@ use Rattle.host.specs.Check.{checkCode, checkRoom}
 use Rattle.host.specs.Feed.{feedFrom, asking, Told, feedCode, feedNumbers, feedRoom}
 use Rattle.probe.specs.Judge.{judgeCode}
 use Rattle.probe.specs.Fill.{grantFrom, writerFrom, fillCode, fillTail, fillContainer}
-use Rattle.audit_probe.specs.Audit.{most, receiverFrom, runFrom, reportFrom}
+use Rattle.audit_probe.specs.Audit.{maxRun, receiverFrom, runFrom, reportFrom}
 use Rattle.reader.specs.Faults.{ReadFault, JudgeFault}
 use Rattle.writer.specs.Faults.{FillFault}
 use Rattle.cause.specs.Order.{Named, None}
+use Rattle.cause.specs.declared.Verdict.the-variants.{Refused}
 
 -- a code of cause·unit + place tells a cause and a place
 abbrev pub Tells : ℕ → ℕ → Cause → ℕ → Type 0
@@ -63,8 +63,8 @@ pub record Hosts : Type 0 where
       → Told (ask.Refused w k p) (length (fedPart f responses others (feedFrom n))) (feedCode f n responses others (length room))
       × (feedNumbers f n responses others (length room) ≡ n) × (feedRoom f n responses others room ≡ room)
   -- `c2c_audit` and its like: by the rules of a run from the fresh ledger; numbers that describe none are 19
-  pub audit-run : (l e : List ℕ) → Configures l → RunRule (ledgerFrom l) most e (runFrom l e)
-  pub audit-numbers : (l e : List ℕ) → (Configures l → ⊥) → runFrom l e ≡ halted (ledgerFrom l) 0 0 (audit.Refused InvalidState 0)
+  pub audit-run : (l e : List ℕ) → Configures l → RunRule (ledgerFrom l) maxRun e (runFrom l e)
+  pub audit-numbers : (l e : List ℕ) → (Configures l → ⊥) → runFrom l e ≡ halted (ledgerFrom l) 0 0 (Refused InvalidState 0)
   -- `c2c_audit_report`
   pub report-behind : (l e : List ℕ) (d p : ℕ) → Configures l → reportFrom l e d p ≡ reported (runFrom l e .ledger) d p
   pub report-numbers : (l e : List ℕ) (d p : ℕ) → (Configures l → ⊥) → reportFrom l e d p ≡ report.Refused InvalidState 0

@@ -11,13 +11,13 @@ use Rattle.ledger.specs.Calls as log
 use Rattle.log.specs.WholeLog.{AcceptedLog}
 use Rattle.pools.specs.declared.receiver.Receiver.{Receiver}
 use Rattle.ledger.specs.declared.ledger.Ledger.{Ledger}
-use Rattle.ledger.specs.declared.ledger.Answer.the-variants.{Refused}
 use Rattle.history.specs.Trace.{Trace, start}
 use Rattle.history.specs.Calls.{Call, after, accepted}
 use Rattle.history.specs.Interleaving.{SameContainers}
 use Rattle.demands.specs.Tap.{heldIn, openIn, auditorOf}
 use Rattle.demands.specs.LogTap.{tapOf}
 use Rattle.demands.specs.Marked.{withBytes, receiverWith, grantsResponses, grantsData, dataAtG9}
+use Rattle.cause.specs.declared.Verdict.the-variants.{Refused}
 
 -- "the same credits held, open messages and carries in every pool", field by field
 pub record SameEnd (l m : Ledger) : Type 0 where

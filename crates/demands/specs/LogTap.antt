@@ -6,7 +6,7 @@ use mathlib.Core.Logic.{_⊎_}
 use lib.ListN.{getD}
 use Rattle.cause.specs.declared.Cause.{Cause}
 use Rattle.log.specs.Log.{receiverAt, logVerdict}
-use Rattle.log.specs.Stream.{most}
+use Rattle.log.specs.Stream.{maxEntries}
 use Rattle.log.specs.declared.log.LogVerdict.the-variants as verdict
 use Rattle.ledger.specs.Calls as log
 use Rattle.log.specs.LogRules.{ConfigurationFault}
@@ -38,10 +38,10 @@ LogNotTapped a =
 -- what the verdict on a log says of histories
 pub record LogDemand : Type 0 where
   -- 'accepted E': the E entries are the tap record of some history
-  pub accepted : (l : List ℕ) (n : ℕ) → logVerdict most l ≡ verdict.Accepted n → (a : AcceptedLog l n) × LogTapped (a .begun)
+  pub accepted : (l : List ℕ) (n : ℕ) → logVerdict maxEntries l ≡ verdict.Accepted n → (a : AcceptedLog l n) × LogTapped (a .begun)
   -- 'refused E C P', whatever the cause: the configuration is refused, or the E entries before are the tap record of some history
-  pub before : (l : List ℕ) (n : ℕ) (k : Cause) (p : ℕ) → logVerdict most l ≡ verdict.Refused n k p
+  pub before : (l : List ℕ) (n : ℕ) (k : Cause) (p : ℕ) → logVerdict maxEntries l ≡ verdict.Refused n k p
       → (ConfigurationFault l k p × (n ≡ 0)) ⊎ ((a : BegunLog l n) × LogTapped a)
   -- a refusal by a reading or pool cause: the accepted entries and then the next are the tap record of none
-  pub refused : (l : List ℕ) (n : ℕ) (k : Cause) (p : ℕ) → (Framing k → ⊥) → logVerdict most l ≡ verdict.Refused n k p
+  pub refused : (l : List ℕ) (n : ℕ) (k : Cause) (p : ℕ) → (Framing k → ⊥) → logVerdict maxEntries l ≡ verdict.Refused n k p
       → (a : RefusedLog l n k p) × LogNotTapped a

@@ -18,9 +18,9 @@ use Rattle.writer.specs.Filling.{writerWith, fillBytes}
 use Rattle.ledger.specs.Audit.{freshLedger, auditing}
 use Rattle.pools.specs.declared.receiver.Receiver.{Receiver}
 use Rattle.ledger.specs.declared.ledger.Ledger.{Ledger}
-use Rattle.ledger.specs.declared.ledger.Answer.{Answer}
-use Rattle.ledger.specs.declared.ledger.Answer.the-variants.{Accepted, Refused}
 use Rattle.history.specs.Calls.{Call}
+use Rattle.cause.specs.declared.Verdict.{Verdict}
+use Rattle.cause.specs.declared.Verdict.the-variants.{Accepted, Refused}
 
 -- a container of zeros but for some bytes, each given by its place and value
 abbrev pub withBytes : List (ℕ × ℕ) → List ℕ
@@ -33,10 +33,10 @@ receiverWith n = record { planes = 2; push = true; capacities = 0 ∷ 0 ∷ 0 �
 
 -- an answer in the paper's numbers: its cause and place, twice 0 where there is no refusal
 abbrev pub readTold : reader.Answer → ℕ × ℕ
-readTold (read.Done n grant) = (0, 0)
+readTold (read.Accepted n grant) = (0, 0)
 readTold (read.Refused k p) = (causeNumber k, p)
 
-abbrev pub auditTold : Answer → ℕ × ℕ
+abbrev pub auditTold : Verdict → ℕ × ℕ
 auditTold Accepted = (0, 0)
 auditTold (Refused k p) = (causeNumber k, p)
 
@@ -78,19 +78,19 @@ noGrant = grantOf 0 0 0 0 0
 
 pub record Marked : Type 0 where
   -- M1 "all-zero container: accepted, no records"
-  pub m1-x : reading (readerWith 0 []) (withBytes []) 352 .answer ≡ read.Done 0 noGrant
-  pub m1-y : reading (readerWith 1 []) (withBytes []) 352 .answer ≡ read.Done 0 noGrant
+  pub m1-x : reading (readerWith 0 []) (withBytes []) 352 .answer ≡ read.Accepted 0 noGrant
+  pub m1-y : reading (readerWith 1 []) (withBytes []) 352 .answer ≡ read.Accepted 0 noGrant
   -- M2 "list 0A 03 and nine zeros, format X, no grant: byte 0 is 03, byte 126 is 01, every other byte zero"
   pub m2 : fillBytes (writerWith 0 []) (10 ∷ 3 ∷ replicate 9 0) noGrant (replicate 256 255) ≡ withBytes ((0, 3) ∷ (126, 1) ∷ [])
   -- M3 "ReqL at G4 in Y lies in G4 and G6"
   pub m3 : records (readerWith 1 []) reqAtG4 ≡ recordsOf ((3 ∷ replicate 9 0) ∷ (granule (formatOf 1) 4 reqAtG4 ++ granule (formatOf 1) 6 reqAtG4) ∷ [])
-  pub m3-read : reading (readerWith 1 []) reqAtG4 352 .answer ≡ read.Done 52 noGrant
+  pub m3-read : reading (readerWith 1 []) reqAtG4 352 .answer ≡ read.Accepted 52 noGrant
   -- M4 "DataL at G9 in X leaves a carry of 60 bytes"; M5 "in Y, 40"
   pub m4 : reading (readerWith 0 []) (longAtG9 127) 352 .reader .carry .len ≡ 60
   pub m5 : reading (readerWith 1 []) (longAtG9 247) 352 .reader .carry .len ≡ 40
   -- M6 "Resp2, Resp2, Resp in group 0: cause 12, place 0"; M7 "Resp, Resp2, Resp: accepted"
   pub m6 : readTold (reading (readerWith 0 []) (groupOf 4 4 3) 352 .answer) ≡ (12, 0)
-  pub m7 : reading (readerWith 0 []) (groupOf 3 4 3) 352 .answer ≡ read.Done 43 noGrant
+  pub m7 : reading (readerWith 0 []) (groupOf 3 4 3) 352 .answer ≡ read.Accepted 43 noGrant
   -- M8 "capacity 2: granting 2 passes, granting 3 is cause 16"
   pub m8 : answersTo (freshLedger 0 (receiverWith 2) (receiverWith 2)) (call 0 (grantsResponses 2) ∷ []) ≡ (0, 0) ∷ []
   pub m8-refused : answersTo (freshLedger 0 (receiverWith 2) (receiverWith 2)) (call 0 (grantsResponses 3) ∷ []) ≡ (16, 9) ∷ []

@@ -10,7 +10,7 @@ use Rattle.reader.specs.Reading.{readerWith, reading}
 use Rattle.reader.specs.declared.reader.Answer.the-variants as read
 use Rattle.writer.specs.Filling.{writerWith, filling}
 use Rattle.writer.specs.declared.writer.Answer.{Answer}
-use Rattle.writer.specs.declared.writer.Answer.the-variants.{Filled, Refused}
+use Rattle.writer.specs.declared.writer.Answer.the-variants.{Accepted, Refused}
 use Rattle.ledger.specs.Audit.{freshLedger}
 use Rattle.pools.specs.declared.receiver.Receiver.{Receiver}
 use Rattle.demands.specs.Marked.{withBytes, readTold, answersTo, call}
@@ -32,7 +32,7 @@ audited n push d bs = answersTo (freshLedger 0 (bare n push) (bare n push)) (cal
 
 -- cause and place of a fill in X
 abbrev pub fillTold : Answer → ℕ × ℕ
-fillTold (Filled used) = (0, 0)
+fillTold (Accepted used) = (0, 0)
 fillTold (Refused k p) = (causeNumber k, p)
 
 abbrev pub fills : List ℕ → Bool → ℕ → ℕ × ℕ
@@ -79,7 +79,7 @@ pub record Pinned : Type 0 where
   pub beside : x ((126, 1) ∷ (0, 10) ∷ (1, 1) ∷ (2, 1) ∷ (190, 1) ∷ []) ≡ (13, 0)
   -- the answer hands out the header's grant: P2 8 is plane 4, and P3 to P6 are 1, 2, 3, 4
   pub grant : reading (readerWith 0 []) (withBytes ((188, 8) ∷ (189, 1) ∷ (190, 2) ∷ (191, 3) ∷ (252, 4) ∷ [])) 352 .answer
-      ≡ read.Done 0 (record { shc = false; rp = 4; req = 1; rsp = 2; snp = 3; dat = 4 })
+      ≡ read.Accepted 0 (record { shc = false; rp = 4; req = 1; rsp = 2; snp = 3; dat = 4 })
   -- 19 of the audit: direction 2
   pub direction : audited 2 true 2 [] ≡ (19, 0) ∷ []
   -- 14 of messages: ReqS of plane 3, which shared credit does not excuse; a DataS without push; a WrReqDataS without push, which shared DAT

@@ -6,19 +6,17 @@ use lib.ListN.{length, getD}
 use lib.Dec.{eqb}
 use Rattle.cause.specs.Checks.{Check, firstFault, passes}
 use Rattle.message.specs.Charges.{charges}
-use Rattle.container.specs.Layout.{formatOf}
+use Rattle.container.specs.Layout.{formatOf, containerSize}
 use Rattle.container.specs.declared.grant.Grant.{Grant}
 use Rattle.reader.specs.Reading.{stateChecks, carried, readerOk, readerWith, nextReader}
 use Rattle.reader.specs.declared.reader.Reader.{Reader}
-use Rattle.pools.specs.Pools.{messageChecks, chargedTo, paidTo, grantedTo}
+use Rattle.pools.specs.Pools.{messageChecks, chargedTo, paidTo, grantedTo, poolCount}
 use Rattle.ledger.specs.Entries.{startsIn, endsIn, grantsOf, checksThen}
 use Rattle.ledger.specs.Audit.{freshLedger, auditing, reported}
 use Rattle.pools.specs.declared.receiver.Receiver.{Receiver}
 use Rattle.ledger.specs.declared.ledger.Ledger.{Ledger}
 use Rattle.ledger.specs.declared.ledger.Reported.{Reported}
 use Rattle.ledger.specs.declared.ledger.Reported.the-variants as report
-use Rattle.ledger.specs.declared.ledger.Answer.{Answer}
-use Rattle.ledger.specs.declared.ledger.Answer.the-variants.{Accepted, Refused}
 use Rattle.history.specs.Link.{Direction, direction0, direction1, numberOf, opposite, Link}
 use Rattle.history.specs.Calls.{Auditor}
 
@@ -40,29 +38,24 @@ linkOf f a b = record {
   Container = List ℕ;
   State = Reader;
   fresh = readerWith f [];
-  reads = λ d s c. eqb (length c) 256 && passes (firstFault (ruleChecks (receiverFor a b d) (receiverFor a b (opposite d)) s c));
+  reads = λ d s c. eqb (length c) containerSize && passes (firstFault (ruleChecks (receiverFor a b d) (receiverFor a b (opposite d)) s c));
   next = λ d s c. nextReader s c;
   grants = λ d s c p. grantedTo p (grantsFrom s c);
   begins = λ d s c p. paidTo p (startsIn s c);
   finishes = λ d s c p. paidTo p (endsIn s c);
   carried = λ s p. chargedTo p (charges (carried s));
   stateOk = λ d s. readerOk s && passes (firstFault (messageChecks (receiverFor a b d) (carried s)));
-  pools = 14;
+  pools = poolCount;
   capacity = λ d p. getD (receiverFor a b d .capacities) p 0;
 }
 
--- whether an answer accepts
-abbrev pub accepting : Answer → Bool
-accepting Accepted = true
-accepting (Refused k p) = false
-
 -- the credits held and the messages open that a report tells, 0 where it is refused
 abbrev pub heldIn : Reported → ℕ
-heldIn (report.Counted held opened) = held .0
+heldIn (report.Accepted held opened) = held .0
 heldIn (report.Refused k p) = 0
 
 abbrev pub openIn : Reported → ℕ
-openIn (report.Counted held opened) = opened .0
+openIn (report.Accepted held opened) = opened .0
 openIn (report.Refused k p) = 0
 
 -- the audit: the code's own ledger, what `audit` answers, and what `report` reports
@@ -71,7 +64,7 @@ auditorOf f a b = record {
   Ledger = Ledger;
   fresh = freshLedger f a b;
   audit = λ l x. record {
-    accepts = accepting (auditing l (x .number) (x .container) .answer);
+    accepts = passes (auditing l (x .number) (x .container) .answer);
     ledger = auditing l (x .number) (x .container) .ledger;
   };
   held = λ l d p. heldIn (reported l (numberOf d) p);

@@ -13,7 +13,7 @@ use Rattle.lists.proofs.Tests.{not-true-false, or-true}
 use Rattle.cause.specs.Checks.{firstFault}
 use Rattle.cause.specs.declared.Cause.the-variants.{BrokenRecord, TooLong, InvalidState}
 use Rattle.cause.specs.declared.Verdict.{Verdict}
-use Rattle.cause.specs.declared.Verdict.the-variants.{Sound, Faulty}
+use Rattle.cause.specs.declared.Verdict.the-variants.{Accepted, Refused}
 use Rattle.feeder.specs.Due.{dueOf, foundAt}
 use Rattle.feeder.specs.Feeding.{feedOk, callChecks, refusing, runAfter, responseStep, otherStep, emptyStep, stepOf, stepBy, listServed, passed, feeding, fedPart}
 use Rattle.feeder.specs.Rules.{Valid, Short, Due, RunsOn, Rule, not-valid, too-long, hands-response, hands-other, both-empty, response-broken, other-broken}
@@ -24,7 +24,7 @@ use Rattle.feeder.specs.declared.found.Found.the-variants.{Right, Wrong}
 use Rattle.feeder.specs.declared.feed.Feed.{Feed}
 use Rattle.feeder.specs.declared.feed.Answer.the-variants.{Handed}
 use Rattle.feeder.specs.declared.feed.Step.{Step}
-use Rattle.feeder.proofs.StepCases.{call-invalid, call-responses, call-others, call-sound, feed-valid, valid-feed, by-outcome}
+use Rattle.feeder.proofs.StepCases.{call-invalid, call-responses, call-others, call-accepted, feed-valid, valid-feed, by-outcome}
 use Rattle.feeder.proofs.RecordCases.{found-record, record-found, none-stands, none-found}
 
 -- ---- the list due
@@ -74,10 +74,10 @@ module _ (f : ℕ) (R O : List ℕ) (s : Feed) where
   abbrev verdict : Verdict
   verdict = firstFault (callChecks f (length R) (length O) s)
 
-  invalid : (Valid f R O s → ⊥) → Faulty InvalidState 0 ≡ verdict
+  invalid : (Valid f R O s → ⊥) → Refused InvalidState 0 ≡ verdict
   invalid h = call-invalid f (length R) (length O) s (not-true-false (feedOk f (length R) (length O) s) (λ e. h (feed-valid f R O s e)))
 
-  long : Valid f R O s → (Short R O → ⊥) → Faulty TooLong 0 ≡ verdict
+  long : Valid f R O s → (Short R O → ⊥) → Refused TooLong 0 ≡ verdict
   long v h =
       let ok = valid-feed f R O s v in
       ⊎-elim
@@ -85,15 +85,15 @@ module _ (f : ℕ) (R O : List ℕ) (s : Feed) where
       ⊎-elim (λ (b : length O < 4097). absurd (h (omega arith, omega arith))) (λ (b : 4097 ≤ length O). call-others f (length R) (length O) s ok (omega arith) (omega arith)) (lt-or-le (length O) 4097))
       (λ (a : 4097 ≤ length R). call-responses f (length R) (length O) s ok (omega arith)) (lt-or-le (length R) 4097)
 
-  sound : Valid f R O s → Short R O → Sound ≡ verdict
-  sound v h = call-sound f (length R) (length O) s (valid-feed f R O s v) (h .0) (h .1)
+  sound : Valid f R O s → Short R O → Accepted ≡ verdict
+  sound v h = call-accepted f (length R) (length O) s (valid-feed f R O s v) (h .0) (h .1)
 
-  step-faulty : (v : Verdict) → v ≡ verdict → stepBy v s (stepOf (dueOf (length R) (length O) s) R O s) ≡ feeding f R O s
+  step-by-verdict : (v : Verdict) → v ≡ verdict → stepBy v s (stepOf (dueOf (length R) (length O) s) R O s) ≡ feeding f R O s
   unfolding feeding
-  step-faulty v e = rw e
+  step-by-verdict v e = rw e
 
-  step-sound : Valid f R O s → Short R O → (w : Waiting) → Due w R O s → stepOf w R O s ≡ feeding f R O s
-  step-sound v h w d = ap (λ (x : Waiting). stepOf x R O s) (sym (due-is R O s w d)) ∙ step-faulty Sound (sound v h)
+  step-by-list : Valid f R O s → Short R O → (w : Waiting) → Due w R O s → stepOf w R O s ≡ feeding f R O s
+  step-by-list v h w d = ap (λ (x : Waiting). stepOf x R O s) (sym (due-is R O s w d)) ∙ step-by-verdict Accepted (sound v h)
 
   -- a step and the part that it hands out
   part-by : (t : Step) → t ≡ feeding f R O s → passed R O s t (listServed (t .answer)) ≡ fedPart f R O s
@@ -144,20 +144,20 @@ module _ (f : ℕ) (R O : List ℕ) (s : Feed) where
   size-behind a k = omega arith
 
   pub only : IsBytes R → IsBytes O → (t : Step) (p : List ℕ) → Rule f R O s t p → Same t p
-  only b c _ _ (not-valid n) = same (refusing s Neither InvalidState 0) [] (step-faulty (Faulty InvalidState 0) (invalid n)) refl
-  only b c _ _ (too-long v n) = same (refusing s Neither TooLong 0) [] (step-faulty (Faulty TooLong 0) (long v n)) refl
+  only b c _ _ (not-valid n) = same (refusing s Neither InvalidState 0) [] (step-by-verdict (Refused InvalidState 0) (invalid n)) refl
+  only b c _ _ (too-long v n) = same (refusing s Neither TooLong 0) [] (step-by-verdict (Refused TooLong 0) (long v n)) refl
   only b c _ _ (hands-response v h d p r n k) =
       same (record { feed = record { response = s .response + length p; other = s .other; run = n }; answer = Handed Responses }) p
-      (rw (run-is O s n k) (ap (responseStep (length O) s) (sym (record-found Responses R (s .response) p r)) ∙ step-sound v h Responses d))
+      (rw (run-is O s n k) (ap (responseStep (length O) s) (sym (record-found Responses R (s .response) p r)) ∙ step-by-list v h Responses d))
       (rw (size-behind (s .response) (length p)) (sym (r .stands)))
   only b c _ _ (hands-other v h d p r) =
       same (record { feed = record { response = s .response; other = s .other + length p; run = 0 }; answer = Handed Others }) p
-      (ap (otherStep s) (sym (record-found Others O (s .other) p r)) ∙ step-sound v h Others d)
+      (ap (otherStep s) (sym (record-found Others O (s .other) p r)) ∙ step-by-list v h Others d)
       (rw (size-behind (s .other) (length p)) (sym (r .stands)))
-  only b c _ _ (both-empty v h d) = same (emptyStep s) [] (step-sound v h Neither d) refl
+  only b c _ _ (both-empty v h d) = same (emptyStep s) [] (step-by-list v h Neither d) refl
   only b c _ _ (response-broken v h d n) =
       same (refusing s Responses BrokenRecord (s .response)) []
-      (ap (responseStep (length O) s) (sym (none-found Responses R (s .response) b (v .response) n)) ∙ step-sound v h Responses d) refl
+      (ap (responseStep (length O) s) (sym (none-found Responses R (s .response) b (v .response) n)) ∙ step-by-list v h Responses d) refl
   only b c _ _ (other-broken v h d n) =
       same (refusing s Others BrokenRecord (s .other)) []
-      (ap (otherStep s) (sym (none-found Others O (s .other) c (v .other) n)) ∙ step-sound v h Others d) refl
+      (ap (otherStep s) (sym (none-found Others O (s .other) c (v .other) n)) ∙ step-by-list v h Others d) refl

@@ -14,8 +14,8 @@ use Rattle.cause.specs.Checks.{firstFault}
 use Rattle.cause.specs.declared.Cause.{Cause}
 use Rattle.cause.specs.declared.Cause.the-variants.{BrokenRecord, TooLong, InvalidState}
 use Rattle.cause.specs.declared.Verdict.{Verdict}
-use Rattle.cause.specs.declared.Verdict.the-variants.{Sound, Faulty}
-use Rattle.cause.proofs.CheckLaws.{sound-pass}
+use Rattle.cause.specs.declared.Verdict.the-variants.{Accepted, Refused}
+use Rattle.cause.proofs.CheckLaws.{accepted-pass}
 use Rattle.feeder.specs.Due.{dueOf, foundAt}
 use Rattle.feeder.specs.Feeding.{feedOk, callChecks, refusing, responseStep, otherStep, emptyStep, stepOf, stepBy, feeding}
 use Rattle.feeder.specs.Rules.{Valid, Short}
@@ -29,23 +29,23 @@ use Rattle.feeder.specs.declared.feed.Step.{Step}
 -- ---- the checks of an ask
 
 module _ (f r o : ℕ) (s : Feed) where
-  pub call-invalid : feedOk f r o s ≡ false → Faulty InvalidState 0 ≡ firstFault (callChecks f r o s)
+  pub call-invalid : feedOk f r o s ≡ false → Refused InvalidState 0 ≡ firstFault (callChecks f r o s)
   unfolding callChecks
   call-invalid e = rw e
 
   module _ (e : feedOk f r o s ≡ true) where
-    pub call-responses : 4096 < r → Faulty TooLong 0 ≡ firstFault (callChecks f r o s)
+    pub call-responses : 4096 < r → Refused TooLong 0 ≡ firstFault (callChecks f r o s)
     unfolding callChecks
     call-responses h = rw (e, lt-leb r 4096 h)
 
     module _ (h : r ≤ 4096) where
-      pub call-others : 4096 < o → Faulty TooLong 0 ≡ firstFault (callChecks f r o s)
+      pub call-others : 4096 < o → Refused TooLong 0 ≡ firstFault (callChecks f r o s)
       unfolding callChecks
       call-others k = rw (e, le-leb r 4096 h, lt-leb o 4096 k)
 
-      pub call-sound : o ≤ 4096 → Sound ≡ firstFault (callChecks f r o s)
+      pub call-accepted : o ≤ 4096 → Accepted ≡ firstFault (callChecks f r o s)
       unfolding callChecks
-      call-sound k = rw (e, le-leb r 4096 h, le-leb o 4096 k)
+      call-accepted k = rw (e, le-leb r 4096 h, le-leb o 4096 k)
 
 -- what a valid feed and a sound verdict say
 module _ (f : ℕ) (R O : List ℕ) (s : Feed) where
@@ -64,20 +64,20 @@ module _ (f : ℕ) (R O : List ℕ) (s : Feed) where
   valid-feed v =
       rw (lt-ltb f 2 (v .format), le-leb (s .response) (length R) (v .response), le-leb (s .other) (length O) (v .other), le-leb (s .run) 4 (v .run))
 
-  pub sound-valid : firstFault (callChecks f (length R) (length O) s) ≡ Sound → Valid f R O s
+  pub checks-accepted-valid : firstFault (callChecks f (length R) (length O) s) ≡ Accepted → Valid f R O s
   unfolding callChecks
-  sound-valid e = feed-valid (sound-pass (callChecks f (length R) (length O) s) e .0)
+  checks-accepted-valid e = feed-valid (accepted-pass (callChecks f (length R) (length O) s) e .0)
 
 -- ---- the step, by verdict and list due
 
 module _ (f : ℕ) (R O : List ℕ) (s : Feed) (v : Verdict) (ev : v ≡ firstFault (callChecks f (length R) (length O) s)) where
-  pub step-refused : (c : Cause) (p : ℕ) → v ≡ Faulty c p → (t : Step) → t ≡ refusing s Neither c p → t ≡ feeding f R O s
+  pub step-refused : (c : Cause) (p : ℕ) → v ≡ Refused c p → (t : Step) → t ≡ refusing s Neither c p → t ≡ feeding f R O s
   unfolding feeding
   step-refused c p e t et = et ∙ rw (← ev, e)
 
-  module _ (e : v ≡ Sound) where
+  module _ (e : v ≡ Accepted) where
     pub valid : Valid f R O s
-    valid = sound-valid f R O s (sym ev ∙ e)
+    valid = checks-accepted-valid f R O s (sym ev ∙ e)
 
     module _ (d : Waiting) (ed : d ≡ dueOf (length R) (length O) s) where
       pub step-due : (w : Waiting) → d ≡ w → (t : Step) → t ≡ stepOf w R O s → t ≡ feeding f R O s
@@ -109,7 +109,7 @@ module _ (f : ℕ) (R O : List ℕ) (s : Feed) where
       known v e x = subst (λ (k : Verdict). P (stepBy k s dueStep)) e x
 
       bad : feedOk f (length R) (length O) s ≡ false → P (stepBy verdict s dueStep)
-      bad e = known (Faulty InvalidState 0) (call-invalid f (length R) (length O) s e) (invalid (λ v. never-both e (valid-feed f R O s v)))
+      bad e = known (Refused InvalidState 0) (call-invalid f (length R) (length O) s e) (invalid (λ v. never-both e (valid-feed f R O s v)))
 
       good : feedOk f (length R) (length O) s ≡ true → P (stepBy verdict s dueStep)
       good e = ⊎-elim responses-short responses-long (lt-or-le (length R) 4097)
@@ -118,13 +118,13 @@ module _ (f : ℕ) (R O : List ℕ) (s : Feed) where
           v = feed-valid f R O s e
 
           responses-long : 4097 ≤ length R → P (stepBy verdict s dueStep)
-          responses-long a = known (Faulty TooLong 0) (call-responses f (length R) (length O) s e (omega arith)) (long v (λ h. let k = h .0 in omega arith))
+          responses-long a = known (Refused TooLong 0) (call-responses f (length R) (length O) s e (omega arith)) (long v (λ h. let k = h .0 in omega arith))
 
           responses-short : length R < 4097 → P (stepBy verdict s dueStep)
           responses-short a =
-              ⊎-elim (λ (b : length O < 4097). known Sound (call-sound f (length R) (length O) s e (omega arith) (omega arith)) (due v (omega arith, omega arith)))
+              ⊎-elim (λ (b : length O < 4097). known Accepted (call-accepted f (length R) (length O) s e (omega arith) (omega arith)) (due v (omega arith, omega arith)))
               (λ (b : 4097 ≤ length O).
-              known (Faulty TooLong 0) (call-others f (length R) (length O) s e (omega arith) (omega arith)) (long v (λ h. let k = h .1 in omega arith)))
+              known (Refused TooLong 0) (call-others f (length R) (length O) s e (omega arith) (omega arith)) (long v (λ h. let k = h .1 in omega arith)))
               (lt-or-le (length O) 4097)
 
   -- what holds of a broken record, of one handed out of each list and of none holds of what the list due gives

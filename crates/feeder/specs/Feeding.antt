@@ -10,7 +10,7 @@ use Rattle.cause.specs.Checks.{Check, check, firstFault}
 use Rattle.cause.specs.declared.Cause.{Cause}
 use Rattle.cause.specs.declared.Cause.the-variants.{BrokenRecord, TooLong, InvalidState}
 use Rattle.cause.specs.declared.Verdict.{Verdict}
-use Rattle.cause.specs.declared.Verdict.the-variants.{Sound, Faulty}
+use Rattle.cause.specs.declared.Verdict.the-variants.{Accepted, Refused}
 use Rattle.feeder.specs.Due.{listOf, positionOf, longestRun, dueOf, foundAt}
 use Rattle.feeder.specs.declared.found.Waiting.{Waiting}
 use Rattle.feeder.specs.declared.found.Waiting.the-variants.{Responses, Others, Neither}
@@ -18,15 +18,13 @@ use Rattle.feeder.specs.declared.found.Found.{Found}
 use Rattle.feeder.specs.declared.found.Found.the-variants.{Right, Wrong}
 use Rattle.feeder.specs.declared.feed.Feed.{Feed}
 use Rattle.feeder.specs.declared.feed.Answer.{Answer}
-use Rattle.feeder.specs.declared.feed.Answer.the-variants.{Handed, Empty, Refused}
+use Rattle.feeder.specs.declared.feed.Answer.the-variants as ask
 use Rattle.feeder.specs.declared.feed.Step.{Step}
+use Rattle.record.specs.Records.{longestList}
 
 -- one above the largest format, and the most bytes of a list
 abbrev pub formats : ℕ
 formats = 2
-
-abbrev pub longestList : ℕ
-longestList = 4096
 
 -- nothing was handed out yet
 abbrev pub freshFeed : Feed
@@ -47,7 +45,7 @@ callChecks f responses others s =
 
 -- a refusal: neither list moves, and the run stays
 abbrev pub refusing : Feed → Waiting → Cause → ℕ → Step
-refusing s w c p = record { feed = s; answer = Refused w c p }
+refusing s w c p = record { feed = s; answer = ask.Refused w c p }
 
 -- "The run counts responses (a Resp2 is one) handed out while the other list waits"
 abbrev pub runAfter : ℕ → Feed → ℕ
@@ -58,17 +56,17 @@ abbrev pub responseStep : ℕ → Feed → Found → Step
 responseStep others s Wrong = refusing s Responses BrokenRecord (s .response)
 responseStep others s (Right end) = record {
   feed = record { response = end; other = s .other; run = runAfter others s };
-  answer = Handed Responses;
+  answer = ask.Handed Responses;
 }
 
 -- the other list is due; "any other answer but a refusal makes it 0"
 abbrev pub otherStep : Feed → Found → Step
 otherStep s Wrong = refusing s Others BrokenRecord (s .other)
-otherStep s (Right end) = record { feed = record { response = s .response; other = end; run = 0 }; answer = Handed Others }
+otherStep s (Right end) = record { feed = record { response = s .response; other = end; run = 0 }; answer = ask.Handed Others }
 
 -- both lists are empty
 abbrev pub emptyStep : Feed → Step
-emptyStep s = record { feed = record { response = s .response; other = s .other; run = 0 }; answer = Empty }
+emptyStep s = record { feed = record { response = s .response; other = s .other; run = 0 }; answer = ask.Empty }
 
 -- a list is due
 abbrev pub stepOf : Waiting → List ℕ → List ℕ → Feed → Step
@@ -76,10 +74,10 @@ stepOf Responses responses others s = responseStep (length others) s (foundAt Re
 stepOf Others responses others s = otherStep s (foundAt Others others (s .other))
 stepOf Neither responses others s = emptyStep s
 
--- a verdict on the ask, and what the list due gives where it is sound
+-- a verdict on the ask, and what the list due gives where it is an acceptance
 abbrev pub stepBy : Verdict → Feed → Step → Step
-stepBy Sound s t = t
-stepBy (Faulty c p) s t = refusing s Neither c p
+stepBy Accepted s t = t
+stepBy (Refused c p) s t = refusing s Neither c p
 
 -- an ask: the answer and the next feed
 unfoldable pub feeding : ℕ → List ℕ → List ℕ → Feed → Step
@@ -89,9 +87,9 @@ feeding f responses others s =
 
 -- the list that an answer hands a record out of
 abbrev pub listServed : Answer → Waiting
-listServed (Handed w) = w
-listServed Empty = Neither
-listServed (Refused w c p) = Neither
+listServed (ask.Handed w) = w
+listServed ask.Empty = Neither
+listServed (ask.Refused w c p) = Neither
 
 -- what a step hands out: the bytes between the old and the new position of the list that it serves
 abbrev pub passed : List ℕ → List ℕ → Feed → Step → Waiting → List ℕ

@@ -9,12 +9,10 @@ use crate::found::Waiting;
 use crate::found::find_record;
 use cause::Cause;
 use cause::Verdict;
+use record::LONGEST_LIST;
 
 // One above the largest format.
 const FORMATS: u32 = 2;
-
-// The most bytes of a list.
-const LONGEST_LIST: usize = 4096;
 
 // The most responses in a row while the other list waits.
 const LONGEST_RUN: u32 = 4;
@@ -93,15 +91,15 @@ impl Feed {
         ensures { λ r. ⌜ r ≡ firstFault (callChecks format responses others self) ⌝ }
     {
         if !self.is_valid(format, responses, others) {
-            return Verdict::Faulty(Cause::InvalidState, 0);
+            return Verdict::Refused(Cause::InvalidState, 0);
         }
         if LONGEST_LIST < responses {
-            return Verdict::Faulty(Cause::TooLong, 0);
+            return Verdict::Refused(Cause::TooLong, 0);
         }
         if LONGEST_LIST < others {
-            return Verdict::Faulty(Cause::TooLong, 0);
+            return Verdict::Refused(Cause::TooLong, 0);
         }
-        Verdict::Sound
+        Verdict::Accepted
     }
 
     // The list that is due: responses first, but not after four in a row while the other list waits.
@@ -210,7 +208,7 @@ impl Feed {
         ensures { λ r. ⌜ r ≡ feeding format (now (responses .entry)) (now (others .entry)) self ⌝ }
     {
         let verdict = self.check_call(format, responses.len(), others.len());
-        if let Verdict::Faulty(cause, place) = verdict {
+        if let Verdict::Refused(cause, place) = verdict {
             return self.refuse(Waiting::Neither, cause, place);
         }
         let due = self.choose_list(responses.len(), others.len());

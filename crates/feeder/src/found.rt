@@ -22,19 +22,19 @@ pub enum Found {
 }
 
 // Whether messages of a type are responses.
-fn is_response(kind: u8) -> bool
-    ensures { λ r. ⌜ r ≡ responseBy kind ⌝ }
+fn is_response(msgtype: u8) -> bool
+    ensures { λ r. ⌜ r ≡ responseBy msgtype ⌝ }
 {
-    0 < count_responses(kind)
+    0 < count_responses(msgtype)
 }
 
 // Whether messages of a type belong in a waiting list.
-fn belongs(list: Waiting, kind: u8) -> bool
-    ensures { λ r. ⌜ r ≡ belongsBy list kind ⌝ }
+fn belongs(list: Waiting, msgtype: u8) -> bool
+    ensures { λ r. ⌜ r ≡ belongsBy list msgtype ⌝ }
 {
     match list {
-        Waiting::Responses => is_response(kind),
-        Waiting::Others => !is_response(kind),
+        Waiting::Responses => is_response(msgtype),
+        Waiting::Others => !is_response(msgtype),
         Waiting::Neither => false,
     }
 }

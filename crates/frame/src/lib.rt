@@ -2,11 +2,9 @@
 // the host"). No container is judged.
 ghost use mathlib.Core.Path.{_≡_};
 ghost use Rattle.frame.specs.Framing.{framing};
+use container::CONTAINER;
 use record::Number;
 use record::read_number;
-
-// The bytes of a container.
-pub const CONTAINER: usize = 256;
 
 // What stands at the front of bytes: no number, a number with fewer bytes behind it than a container has, or a whole entry, whose container
 // begins at `start`.

@@ -9,7 +9,7 @@ use Rattle.history.specs.Link.{Direction, direction0, direction1, opposi
 use Rattle.history.specs.History.{Event, leaves, passes, arrives, frees, appendIf, left, passed, arrived, freed, total, heldAtSender, History}
 use Rattle.history.specs.Delays.{UnderWay, Readable, Plain, Ahead, Delays}
 use Rattle.history.proofs.Order.{⊑-trans}
-use Rattle.history.proofs.Eager.{repeat, repeatEach, each-keeps, opposite-differs, freed-elsewhere, past-freed, each-freed, each-history, ungranted-opposite}
+use Rattle.history.proofs.AtOnce.{repeat, repeatEach, each-keeps, opposite-differs, freed-elsewhere, past-freed, each-freed, each-history, ungranted-opposite}
 
 -- what each direction has, with x for direction e
 abbrev set : {A : Type 0} → Direction → A → (Direction → A) → Direction → A

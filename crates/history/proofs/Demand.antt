@@ -8,22 +8,22 @@ use Rattle.lists.proofs.Tests.{and-right, and-both}
 use Rattle.history.specs.Trace.{Trace, _▷_}
 use Rattle.history.specs.Link.{Direction, numberOf, directionOf, Link, Lawful}
 use Rattle.history.specs.History.{Entry, Tapped}
-use Rattle.history.specs.Books.{Books}
+use Rattle.history.specs.Bounds.{Bounded}
 use Rattle.history.specs.Calls.{Call, Auditor, Admits, after}
 use Rattle.history.specs.Audit.{Ledger, ledgerOk, entryOk, auditEntry, linkAuditor}
 use Rattle.history.specs.Demand.{Closed}
 use Rattle.history.proofs.Conservation.{moment-history, flows-hold, conserved}
 use Rattle.history.proofs.Sound.{tap-sound}
-use Rattle.history.proofs.Eager.{tap-complete}
+use Rattle.history.proofs.AtOnce.{tap-complete}
 use Rattle.history.proofs.Ledger.{Agrees, ledger-valid, entered-agrees, entry-exactly}
 use Rattle.history.proofs.Calls.{direction-is, number-is, Faithful, always-agrees, calls-exactly, Simulates, always-related, same-accepted}
 
 module _ (K : Link) (L : Lawful K) where
   open Link K using (Container)
 
-  -- entries are the tap record of some history exactly when they keep the books
-  pub tap-exactly : (t : Trace (Entry Container)) → Tapped K t ↔ Books K t
-  tap-exactly t = (λ h. subst (Books K) (h .2) (tap-sound K (h .0) (h .1)), tap-complete K L t)
+  -- entries are the tap record of some history exactly when they are within their bounds
+  pub tap-exactly : (t : Trace (Entry Container)) → Tapped K t ↔ Bounded K t
+  tap-exactly t = (λ h. subst (Bounded K) (h .2) (tap-sound K (h .0) (h .1)), tap-complete K L t)
 
   module _ (t : Trace (Entry Container)) (l : Ledger K) (a : Agrees K t l) (x : Call Container) where
     accepted-only : (o : Option Direction) → directionOf (x .number) ≡ o → auditEntry K l o (x .container) .accepts ≡ true
@@ -57,15 +57,15 @@ module _ (K : Link) (L : Lawful K) where
 
   pub link-faithful : Faithful (linkAuditor K) (Tapped K) (Agrees K)
   link-faithful = record {
-    at-first = record { held-is = λ d p. refl; unfinished-is = λ d p. refl; state-is = λ d. refl; books-kept = tt };
+    at-first = record { held-is = λ d p. refl; unfinished-is = λ d p. refl; state-is = λ d. refl; bounded-kept = tt };
     decides = λ t l a x. (accepted-only t l a x (directionOf (x .number)) refl, accepted-if t l a x);
     enters = entered;
     refuses = refused;
   }
 
-  -- the books of a link's audit close
-  pub link-books-close : (xs : Trace (Call Container)) → Closed K (linkAuditor K) xs
-  link-books-close xs = record {
+  -- demand 3 holds of a link's audit
+  pub link-closes : (xs : Trace (Call Container)) → Closed K (linkAuditor K) xs
+  link-closes xs = record {
     accepts-exactly = calls-exactly (linkAuditor K) (Tapped K) (Agrees K) link-faithful xs;
     credits = λ now m. always-agrees (linkAuditor K) (Tapped K) (Agrees K) link-faithful now .held-is;
     messages = λ now m. always-agrees (linkAuditor K) (Tapped K) (Agrees K) link-faithful now .unfinished-is;
@@ -73,13 +73,13 @@ module _ (K : Link) (L : Lawful K) where
     adds-up = λ now b h m v e k. conserved K L m (moment-history K k v);
   }
 
-  -- the books of an audit with ledgers of another kind close, if it answers and reports as the link's audit does
+  -- demand 3 holds of an audit with ledgers of another kind, if it answers and reports as the link's audit does
   module _ (U : Auditor Container) (Related : U .Ledger → Ledger K → Type 0) (S : Simulates U (linkAuditor K) Related) where
-    pub books-close : (xs : Trace (Call Container)) → Closed K U xs
-    books-close xs =
+    pub audit-closes : (xs : Trace (Call Container)) → Closed K U xs
+    audit-closes xs =
         let r = always-related U (linkAuditor K) Related S in
         let s = same-accepted U (linkAuditor K) Related S in
-        let c = link-books-close xs in
+        let c = link-closes xs in
         record {
           accepts-exactly = λ before x m.
               rw (S .same-answer (after U before) (after (linkAuditor K) before) (r before) x, s before) (c .accepts-exactly before x m);

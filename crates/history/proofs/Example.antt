@@ -9,7 +9,7 @@ use Rattle.history.specs.Link.{Link, Lawful}
 use Rattle.history.specs.Calls.{Call, after}
 use Rattle.history.specs.Audit.{linkAuditor}
 use Rattle.history.specs.Demand.{Closed}
-use Rattle.history.proofs.Demand.{link-books-close}
+use Rattle.history.proofs.Demand.{link-closes}
 
 -- a container grants credits, starts a message that goes on, ends it, or breaks the rules
 data Small : Type 0 where
@@ -99,9 +99,9 @@ small-lawful n = record {
   no-finish = λ d s c p k r h. none-elsewhere (smallFinishes c) p h;
 }
 
--- the books of its audit close
-small-books-close : (n : ℕ) (xs : Trace (Call Small)) → Closed (smallLink n) (linkAuditor (smallLink n)) xs
-small-books-close n = link-books-close (smallLink n) (small-lawful n)
+-- demand 3 holds of its audit
+small-closes : (n : ℕ) (xs : Trace (Call Small)) → Closed (smallLink n) (linkAuditor (smallLink n)) xs
+small-closes n = link-closes (smallLink n) (small-lawful n)
 
 abbrev callOf : ℕ → Small → Call Small
 callOf d c = record { number = d; container = c }

@@ -6,7 +6,7 @@ use mathlib.Core.Path.{_≡_, sym, _∙_, ap}
 use Rattle.history.specs.Trace.{Trace}
 use Rattle.history.specs.Link.{Direction, opposite, Link, Lawful}
 use Rattle.history.specs.History.{Entry, stateAfter, Measure, total, Tapped}
-use Rattle.history.specs.Books.{containersOf}
+use Rattle.history.specs.Bounds.{containersOf}
 use Rattle.history.specs.Calls.{Call, Auditor, after, accepted}
 use Rattle.history.specs.Audit.{Ledger, linkAuditor}
 use Rattle.history.specs.Interleaving.{SameContainers, SameReports}

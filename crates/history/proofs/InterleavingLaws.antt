@@ -7,7 +7,7 @@ use mathlib.Core.Logic.{_↔_}
 use Rattle.history.specs.Trace.{Trace, start, _▷_}
 use Rattle.history.specs.Link.{Direction, direction0, direction1, Link}
 use Rattle.history.specs.History.{Entry, appendIf}
-use Rattle.history.specs.Books.{containersOf}
+use Rattle.history.specs.Bounds.{containersOf}
 use Rattle.history.specs.Audit.{Ledger, creditsPaid, enter}
 use Rattle.history.specs.Interleaving.{SameContainers, Interleaves, none, next0, next1}
 

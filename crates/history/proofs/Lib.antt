@@ -1,9 +1,9 @@
 pub mod Order
 pub mod Conservation
-pub mod Turns
+pub mod CounterLaws
 pub mod OneMore
 pub mod Sound
-pub mod Eager
+pub mod AtOnce
 pub mod Calls
 pub mod Below
 pub mod Ledger

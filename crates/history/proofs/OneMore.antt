@@ -1,10 +1,10 @@
--- One entry more: which bounds of the books it changes. Assumes nothing.
+-- One entry more: which bounds it changes. Assumes nothing.
 use Prim.Native.Nat.{ℕ, _+_, _≤_}
 use native.Mathlib.Omega.{arith}
 use Rattle.history.specs.Trace.{Trace, _▷_}
 use Rattle.history.specs.Link.{Direction, direction0, direction1, opposite, Link}
 use Rattle.history.specs.History.{Entry, stateAfter, total}
-use Rattle.history.specs.Books.{containersOf, Within}
+use Rattle.history.specs.Bounds.{containersOf, Within}
 
 module _ (K : Link) (t : Trace (Entry (K .Container))) (c : K .Container) where
   open Link K using (grants, begins, finishes, capacity)

@@ -1,11 +1,11 @@
--- The tap record of every history keeps the books. Assumes nothing.
+-- The tap record of every history is within its bounds. Assumes nothing.
 use Prim.Native.Nat.{ℕ, _+_, _≤_}
 use native.Mathlib.Omega.{arith}
 use mathlib.Core.Path.{_≡_, refl, ap}
 use Rattle.history.specs.Trace.{Trace, start, _▷_, _⊑_, whole, shorter}
 use Rattle.history.specs.Link.{Direction, opposite, Link}
 use Rattle.history.specs.History.{Event, leaves, passes, arrives, frees, appendIf, passed, tapRecord, total, History}
-use Rattle.history.specs.Books.{containersOf, Within, Books}
+use Rattle.history.specs.Bounds.{containersOf, Within, Bounded}
 use Rattle.history.specs.Delays.{Readable}
 use Rattle.history.proofs.Order.{in-order, total-grows}
 use Rattle.history.proofs.Conservation.{out-within-in, left-reads}
@@ -42,7 +42,7 @@ module _ (K : Link) where
   beginning-reads d (whole e) r = rw e r
   beginning-reads d (shorter k) r = beginning-reads d k (r .0)
 
-  pub tap-sound : (h : Trace (Event Container)) → History K h → Books K (tapRecord h)
+  pub tap-sound : (h : Trace (Event Container)) → History K h → Bounded K (tapRecord h)
   tap-sound start v = tt
   tap-sound (h ▷ leaves e c) v = tap-sound h (v .0)
   tap-sound (h ▷ passes e c) v = (

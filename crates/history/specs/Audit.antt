@@ -5,7 +5,7 @@ use mathlib.Core.Option.{Option, none, some}
 use lib.Dec.{leb, eqb}
 use Rattle.lists.specs.Pick.{pick}
 use Rattle.history.specs.Link.{Direction, direction0, direction1, directionOf, opposite, sameDirection, Link}
-use Rattle.history.specs.Calls.{Answer, Auditor}
+use Rattle.history.specs.Calls.{Step, Auditor}
 
 -- a test holds at every number below n
 abbrev pub allBelow : ℕ → (ℕ → Bool) → Bool
@@ -68,7 +68,7 @@ module _ (K : Link) where
   }
 
   -- the audit of an entry: a number that is no direction is refused, and a refusal hands back the ledger as it was
-  abbrev pub auditEntry : Ledger → Option Direction → Container → Answer Ledger
+  abbrev pub auditEntry : Ledger → Option Direction → Container → Step Ledger
   auditEntry l none c = record { accepts = false; ledger = l }
   auditEntry l (some d) c = record {
     accepts = ledgerOk l && entryOk l d c;

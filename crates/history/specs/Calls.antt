@@ -15,18 +15,18 @@ pub record Call (A : Type 0) : Type 0 where
   pub container : A
 
 -- what a call hands back: whether it accepts, and the next ledger
-pub record Answer (L : Type 0) : Type 0 where
+pub record Step (L : Type 0) : Type 0 where
   pub accepts : Bool
   pub ledger : L
 
--- an audit: its ledgers, its answers, and what a ledger reports for each direction and pool
+-- an audit: its ledgers, its steps, and what a ledger reports for each direction and pool
 pub record Auditor (A : Type 0) : Type 1 where
   -- the ledgers, valid or not
   pub Ledger : Type 0
   -- the ledger before the first call
   pub fresh : Ledger
-  -- the answer to a call with a ledger
-  pub audit : Ledger → Call A → Answer Ledger
+  -- a call with a ledger
+  pub audit : Ledger → Call A → Step Ledger
   -- the credits that a ledger reports as granted and not paid at the tap
   pub held : Ledger → Direction → ℕ → ℕ
   -- the messages that a ledger reports as begun and not finished at the tap

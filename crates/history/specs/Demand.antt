@@ -4,10 +4,10 @@ use mathlib.Core.Path.{_≡_}
 use Rattle.history.specs.Trace.{Trace, _⊑_}
 use Rattle.history.specs.Link.{Direction, Link}
 use Rattle.history.specs.History.{Event, tapRecord, ungranted, returning, heldAtSender, inFlight, buffered, Flows, History, Tapped}
-use Rattle.history.specs.Books.{granted, begun, finished}
+use Rattle.history.specs.Bounds.{granted, begun, finished}
 use Rattle.history.specs.Calls.{Call, Auditor, after, accepted, Exactly}
 
--- the books of the audit U close over the calls xs from its fresh ledger; `now` is the start of xs or follows a call
+-- demand 3 holds of the audit U over the calls xs from its fresh ledger; `now` is the start of xs or follows a call
 pub record Closed (K : Link) (U : Auditor (K .Container)) (xs : Trace (Call (K .Container))) : Type 0 where
   -- "A call accepts exactly when .. the entries accepted before it, and then its own, are the tap record of some history of two
   -- rule-keeping ends."

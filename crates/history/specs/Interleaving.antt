@@ -4,7 +4,7 @@ use mathlib.Core.Path.{_≡_}
 use Rattle.history.specs.Trace.{Trace, start, _▷_}
 use Rattle.history.specs.Link.{Direction, direction0, direction1}
 use Rattle.history.specs.History.{Entry}
-use Rattle.history.specs.Books.{containersOf}
+use Rattle.history.specs.Bounds.{containersOf}
 use Rattle.history.specs.Calls.{Auditor}
 
 -- "the same containers in the same order within each direction"

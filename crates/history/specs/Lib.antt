@@ -1,8 +1,8 @@
 pub mod Trace
 pub mod Link
 pub mod History
-pub mod Ring
-pub mod Books
+pub mod Counters
+pub mod Bounds
 pub mod Calls
 pub mod Audit
 pub mod Demand

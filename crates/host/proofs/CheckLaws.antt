@@ -8,18 +8,18 @@ use Rattle.cause.specs.Causes.{causeNumber}
 use Rattle.cause.specs.declared.Cause.{Cause}
 use Rattle.cause.proofs.CauseLaws.{number-most}
 use Rattle.container.specs.declared.grant.Grant.{Grant}
-use Rattle.reader.specs.Reading.{readerWith, opened, reading, readRoom}
+use Rattle.reader.specs.Reading.{readerWith, newReader, reading, readRoom}
 use Rattle.reader.specs.declared.reader.Reader.{Reader}
-use Rattle.reader.specs.declared.reader.Opened.{Opened}
+use Rattle.reader.specs.declared.reader.Created.{Created}
 use Rattle.reader.specs.declared.reader.Step.{Step}
-use Rattle.reader.specs.declared.reader.Answer.the-variants.{Done, Refused}
+use Rattle.reader.specs.declared.reader.Answer.the-variants.{Accepted, Refused}
 use Rattle.reader.proofs.PlaceLaws.{refused-place}
 use Rattle.host.specs.Check.{codeOf, checkCode, checkRoom}
 
 -- the reading from a fresh state
-module _ (f : ℕ) (c room : List ℕ) (o : Opened) (eo : o ≡ opened f) where
+module _ (f : ℕ) (c room : List ℕ) (o : Created) (eo : o ≡ newReader f) where
   fresh : o .reader ≡ readerWith f []
-  fresh = ap (λ (x : Opened). x .reader) eo
+  fresh = ap (λ (x : Created). x .reader) eo
 
   pub room-left : (d : List ℕ) → d ≡ readRoom (o .reader) c room → d ≡ checkRoom f c room
   unfolding checkRoom
@@ -29,7 +29,7 @@ module _ (f : ℕ) (c room : List ℕ) (o : Opened) (eo : o ≡ opened f) where
     same : r .answer ≡ reading (readerWith f []) c (length room) .answer
     same = ap (λ (x : Step). x .answer) (er ∙ ap (λ (s : Reader). reading s c (length room)) fresh)
 
-    pub done-code : (n : ℕ) (g : Grant) → r .answer ≡ Done n g → 0 ≡ checkCode f c (length room)
+    pub done-code : (n : ℕ) (g : Grant) → r .answer ≡ Accepted n g → 0 ≡ checkCode f c (length room)
     unfolding checkCode
     done-code n g e = ap codeOf (sym e ∙ same)
 

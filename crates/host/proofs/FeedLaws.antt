@@ -17,16 +17,16 @@ use Rattle.cause.specs.Checks.{check, firstFault}
 use Rattle.cause.specs.declared.Cause.{Cause}
 use Rattle.cause.specs.declared.Cause.the-variants.{RoomTooSmall, InvalidState}
 use Rattle.cause.specs.declared.Verdict.{Verdict}
-use Rattle.cause.specs.declared.Verdict.the-variants.{Sound, Faulty}
+use Rattle.cause.specs.declared.Verdict.the-variants.{Accepted, Refused}
 use Rattle.cause.proofs.CauseLaws.{number-most}
-use Rattle.cause.proofs.CheckLaws.{sound-pass}
+use Rattle.cause.proofs.CheckLaws.{accepted-pass}
 use Rattle.feeder.specs.Feeding.{feedOk, stepBy, feeding, fedPart}
 use Rattle.feeder.specs.Rules.{Moves, movedOver}
 use Rattle.feeder.specs.declared.found.Waiting.{Waiting}
 use Rattle.feeder.specs.declared.found.Waiting.the-variants.{Responses, Others, Neither}
 use Rattle.feeder.specs.declared.feed.Feed.{Feed}
 use Rattle.feeder.specs.declared.feed.Answer.{Answer}
-use Rattle.feeder.specs.declared.feed.Answer.the-variants.{Handed, Empty, Refused}
+use Rattle.feeder.specs.declared.feed.Answer.the-variants as ask
 use Rattle.feeder.specs.declared.feed.Step.{Step}
 use Rattle.feeder.proofs.StepCases.{feed-valid}
 use Rattle.feeder.proofs.StepLaws.{part-short, refused-state, refused-part, refused-place, positions-low, moves-long, none-over, step-moves}
@@ -57,23 +57,23 @@ pub is-ok : (f r o : ℕ) (n : List ℕ) (s : Feed) → s ≡ feedFrom n → (b 
 is-ok f r o n s e b eb = ap (feedOk f r o) (sym e) ∙ sym eb
 
 module _ (f : ℕ) (n : List ℕ) (r o room : ℕ) where
-  pub call-other : (length n ≡ 3 → ⊥) → Faulty InvalidState 0 ≡ firstFault (callChecks f n r o room)
+  pub call-other : (length n ≡ 3 → ⊥) → Refused InvalidState 0 ≡ firstFault (callChecks f n r o room)
   unfolding callChecks
   call-other d = rw (ne-eqb (length n) 3 d)
 
   module _ (h : length n ≡ 3) where
-    pub call-invalid : feedOk f r o (feedFrom n) ≡ false → Faulty InvalidState 0 ≡ firstFault (callChecks f n r o room)
+    pub call-invalid : feedOk f r o (feedFrom n) ≡ false → Refused InvalidState 0 ≡ firstFault (callChecks f n r o room)
     unfolding callChecks
     call-invalid e = rw (eq-eqb (length n) 3 h, e)
 
     module _ (e : feedOk f r o (feedFrom n) ≡ true) where
-      pub call-small : room < 121 → Faulty RoomTooSmall 0 ≡ firstFault (callChecks f n r o room)
+      pub call-small : room < 121 → Refused RoomTooSmall 0 ≡ firstFault (callChecks f n r o room)
       unfolding callChecks
       call-small k = rw (eq-eqb (length n) 3 h, e, lt-leb 121 room k)
 
-      pub call-sound : 121 ≤ room → Sound ≡ firstFault (callChecks f n r o room)
+      pub call-accepted : 121 ≤ room → Accepted ≡ firstFault (callChecks f n r o room)
       unfolding callChecks
-      call-sound k = rw (eq-eqb (length n) 3 h, e, le-leb 121 room k)
+      call-accepted k = rw (eq-eqb (length n) 3 h, e, le-leb 121 room k)
 
 -- ---- the numbers of an answer
 
@@ -82,10 +82,10 @@ list-most Responses = omega arith
 list-most Others = omega arith
 list-most Neither = omega arith
 
-pub handed-small : (a : Answer) (w : Waiting) (bytes x : ℕ) → a ≡ Handed w → Small a bytes → x ≡ listNumber w → (x ≤ 2) × (bytes ≤ 4096)
-handed-small a w bytes x e h ex = let s : Small (Handed w) bytes = rw e at h in let m = list-most w in (omega arith, s)
+pub handed-small : (a : Answer) (w : Waiting) (bytes x : ℕ) → a ≡ ask.Handed w → Small a bytes → x ≡ listNumber w → (x ≤ 2) × (bytes ≤ 4096)
+handed-small a w bytes x e h ex = let s : Small (ask.Handed w) bytes = rw e at h in let m = list-most w in (omega arith, s)
 
-module _ (a : Answer) (w : Waiting) (c : Cause) (p : ℕ) (e : a ≡ Refused w c p) where
+module _ (a : Answer) (w : Waiting) (c : Cause) (p : ℕ) (e : a ≡ ask.Refused w c p) where
   pub refused-cause : (x : ℕ) → x ≡ causeNumber c → x ≤ 23
   refused-cause x ex = let m = number-most c in omega arith
 
@@ -139,38 +139,38 @@ module _ (R O : List ℕ) (s e : Feed) (m : Moves R O s e) (room : List ℕ) (fi
 -- ---- a call
 
 -- the place of a call's fault is 0
-fault-zero : (f : ℕ) (n : List ℕ) (r o room : ℕ) (c : Cause) (p : ℕ) → firstFault (callChecks f n r o room) ≡ Faulty c p → p ≡ 0
+fault-zero : (f : ℕ) (n : List ℕ) (r o room : ℕ) (c : Cause) (p : ℕ) → firstFault (callChecks f n r o room) ≡ Refused c p → p ≡ 0
 unfolding callChecks
 fault-zero f n r o room c p = by (eqb (length n) 3 && feedOk f r o (feedFrom n)) (leb longestRecord room)
   where
-    by : (a b : Bool) → firstFault (check a InvalidState 0 ∷ check b RoomTooSmall 0 ∷ []) ≡ Faulty c p → p ≡ 0
+    by : (a b : Bool) → firstFault (check a InvalidState 0 ∷ check b RoomTooSmall 0 ∷ []) ≡ Refused c p → p ≡ 0
     by false b e = let z : 0 ≡ p = cc in sym z
     by true false e = let z : 0 ≡ p = cc in sym z
     by true true e = let z : _≡_ {A = ℕ} 0 1 = cc in absurd (omega arith)
 
 module _ (f : ℕ) (n R O room : List ℕ) (v : Verdict) (ev : v ≡ firstFault (callChecks f n (length R) (length O) (length room))) where
   -- a refusal before the ask
-  module _ (c : Cause) (p : ℕ) (e : v ≡ Faulty c p) where
-    pub faulty-small : p ≤ 4096
-    faulty-small = let z = fault-zero f n (length R) (length O) (length room) c p (sym ev ∙ e) in omega arith
+  module _ (c : Cause) (p : ℕ) (e : v ≡ Refused c p) where
+    pub verdict-small : p ≤ 4096
+    verdict-small = let z = fault-zero f n (length R) (length O) (length room) c p (sym ev ∙ e) in omega arith
 
-    pub faulty-code : (x : ℕ) → x ≡ answerCode (Refused Neither c p) 0 → x ≡ feedCode f n R O (length room)
+    pub refused-number : (x : ℕ) → x ≡ answerCode (ask.Refused Neither c p) 0 → x ≡ feedCode f n R O (length room)
     unfolding feedCode
-    faulty-code x ex = rw (← ev, e) ex
+    refused-number x ex = rw (← ev, e) ex
 
-    pub faulty-numbers : n ≡ feedNumbers f n R O (length room)
+    pub refused-numbers : n ≡ feedNumbers f n R O (length room)
     unfolding feedNumbers
-    faulty-numbers = rw (← ev, e)
+    refused-numbers = rw (← ev, e)
 
-    pub faulty-room : room ≡ feedRoom f n R O room
+    pub refused-room : room ≡ feedRoom f n R O room
     unfolding feedRoom
-    faulty-room = rw (← ev, e)
+    refused-room = rw (← ev, e)
 
-  module _ (e : v ≡ Sound) where
+  module _ (e : v ≡ Accepted) where
     passes : (length n ≡ 3) × (feedOk f (length R) (length O) (feedFrom n) ≡ true) × (121 ≤ length room)
     unfolding callChecks
     passes =
-        let h = sound-pass (callChecks f n (length R) (length O) (length room)) (sym ev ∙ e) in (
+        let h = accepted-pass (callChecks f n (length R) (length O) (length room)) (sym ev ∙ e) in (
           eqb-true (length n) 3 (and-left (eqb (length n) 3) (feedOk f (length R) (length O) (feedFrom n)) (h .0)),
           and-right (eqb (length n) 3) (feedOk f (length R) (length O) (feedFrom n)) (h .0),
           leb-true 121 (length room) (h .1 .0),
@@ -197,57 +197,57 @@ module _ (f : ℕ) (n R O room : List ℕ) (v : Verdict) (ev : v ≡ firstFault 
       answer-small x ex = rw (ex ∙ ap length (sym (moves-over .1))) (rw et (by (feeding f R O s .answer) refl))
         where
           by : (a : Answer) → feeding f R O s .answer ≡ a → Small a (length (fedPart f R O s))
-          by (Handed w) k = let h = part-short f R O s in omega arith
-          by Empty k = tt
-          by (Refused w c p) k = refused-place f R O s w c p k
+          by (ask.Handed w) k = let h = part-short f R O s in omega arith
+          by ask.Empty k = tt
+          by (ask.Refused w c p) k = refused-place f R O s w c p k
 
-      pub sound-code : (x y : ℕ) → x ≡ length (movedOver R O s (t .feed)) → y ≡ answerCode (t .answer) x → y ≡ feedCode f n R O (length room)
+      pub accepted-zero-code : (x y : ℕ) → x ≡ length (movedOver R O s (t .feed)) → y ≡ answerCode (t .answer) x → y ≡ feedCode f n R O (length room)
       unfolding feedCode
-      sound-code x y ex ey =
+      accepted-zero-code x y ex ey =
           let ep : x ≡ length (fedPart f R O s) = ex ∙ ap length (sym (moves-over .1)) in
           ey ∙ rw (← ev, e, et, ep, es)
 
-      pub sound-numbers : (m : List ℕ) → m ≡ numbersOf (t .feed) → m ≡ feedNumbers f n R O (length room)
+      pub accepted-numbers : (m : List ℕ) → m ≡ numbersOf (t .feed) → m ≡ feedNumbers f n R O (length room)
       unfolding feedNumbers
-      sound-numbers m em = em ∙ rw (← ev, e, et, es)
+      accepted-numbers m em = em ∙ rw (← ev, e, et, es)
 
-      pub sound-room : (d : List ℕ) → d ≡ put 0 (movedOver R O s (t .feed)) room → d ≡ feedRoom f n R O room
+      pub accepted-room : (d : List ℕ) → d ≡ put 0 (movedOver R O s (t .feed)) room → d ≡ feedRoom f n R O room
       unfolding feedRoom
-      sound-room d ed =
+      accepted-room d ed =
           let ep : d ≡ put 0 (fedPart f R O s) room = ed ∙ ap (λ (x : List ℕ). put 0 x room) (sym (moves-over .1)) in
           ep ∙ rw (← ev, e, es)
 
 -- ---- what a code tells, and that a refusal changes nothing
 
 answer-told : (a : Answer) (bytes : ℕ) → Small a bytes → Told a bytes (answerCode a bytes)
-answer-told (Handed w) bytes h = let m = list-most w in (omega arith, omega arith, omega arith)
-answer-told Empty bytes h = refl
-answer-told (Refused w c p) bytes h = let m = list-most w in let k = number-most c in (omega arith, omega arith, omega arith)
+answer-told (ask.Handed w) bytes h = let m = list-most w in (omega arith, omega arith, omega arith)
+answer-told ask.Empty bytes h = refl
+answer-told (ask.Refused w c p) bytes h = let m = list-most w in let k = number-most c in (omega arith, omega arith, omega arith)
 
 module _ (f : ℕ) (n R O room : List ℕ) where
   abbrev verdict : Verdict
   verdict = firstFault (callChecks f n (length R) (length O) (length room))
 
   asked-small : (v : Verdict) → v ≡ verdict → Small (stepBy v (feedFrom n) (feeding f R O (feedFrom n)) .answer) (length (fedPart f R O (feedFrom n)))
-  asked-small (Faulty c p) e = faulty-small f n R O room (Faulty c p) e c p refl
-  asked-small Sound e = answer-small f n R O room Sound e refl (feedFrom n) refl (feeding f R O (feedFrom n)) refl (length (fedPart f R O (feedFrom n)))
-      (ap length (moves-over f n R O room Sound e refl (feedFrom n) refl (feeding f R O (feedFrom n)) refl .1))
+  asked-small (Refused c p) e = verdict-small f n R O room (Refused c p) e c p refl
+  asked-small Accepted e = answer-small f n R O room Accepted e refl (feedFrom n) refl (feeding f R O (feedFrom n)) refl (length (fedPart f R O (feedFrom n)))
+      (ap length (moves-over f n R O room Accepted e refl (feedFrom n) refl (feeding f R O (feedFrom n)) refl .1))
 
   pub code-told : Told (asking f n R O (length room) .answer) (length (fedPart f R O (feedFrom n))) (feedCode f n R O (length room))
   unfolding feedCode
   code-told = answer-told (asking f n R O (length room) .answer) (length (fedPart f R O (feedFrom n))) (asked-small verdict refl)
 
-  kept : (w : Waiting) (c : Cause) (p : ℕ) → (v : Verdict) → v ≡ verdict → stepBy v (feedFrom n) (feeding f R O (feedFrom n)) .answer ≡ Refused w c p
+  kept : (w : Waiting) (c : Cause) (p : ℕ) → (v : Verdict) → v ≡ verdict → stepBy v (feedFrom n) (feeding f R O (feedFrom n)) .answer ≡ ask.Refused w c p
       → (feedNumbers f n R O (length room) ≡ n) × (feedRoom f n R O room ≡ room)
-  kept w c p (Faulty k q) ev e = (sym (faulty-numbers f n R O room (Faulty k q) ev k q refl), sym (faulty-room f n R O room (Faulty k q) ev k q refl))
-  kept w c p Sound ev e =
+  kept w c p (Refused k q) ev e = (sym (refused-numbers f n R O room (Refused k q) ev k q refl), sym (refused-room f n R O room (Refused k q) ev k q refl))
+  kept w c p Accepted ev e =
       let same = refused-state f R O (feedFrom n) w c p e in
       let none = refused-part f R O (feedFrom n) w c p e in
-      let m = sound-numbers f n R O room Sound ev refl (feedFrom n) refl (feeding f R O (feedFrom n)) refl (numbersOf (feeding f R O (feedFrom n) .feed)) refl in
-      let d = sound-room f n R O room Sound ev refl (feedFrom n) refl (feeding f R O (feedFrom n)) refl (put 0 (fedPart f R O (feedFrom n)) room)
-      (ap (λ (x : List ℕ). put 0 x room) (moves-over f n R O room Sound ev refl (feedFrom n) refl (feeding f R O (feedFrom n)) refl .1)) in
-      (sym m ∙ ap numbersOf same ∙ three-numbers n (three f n R O room Sound ev refl), sym d ∙ rw none)
+      let m = accepted-numbers f n R O room Accepted ev refl (feedFrom n) refl (feeding f R O (feedFrom n)) refl (numbersOf (feeding f R O (feedFrom n) .feed)) refl in
+      let d = accepted-room f n R O room Accepted ev refl (feedFrom n) refl (feeding f R O (feedFrom n)) refl (put 0 (fedPart f R O (feedFrom n)) room)
+      (ap (λ (x : List ℕ). put 0 x room) (moves-over f n R O room Accepted ev refl (feedFrom n) refl (feeding f R O (feedFrom n)) refl .1)) in
+      (sym m ∙ ap numbersOf same ∙ three-numbers n (three f n R O room Accepted ev refl), sym d ∙ rw none)
 
-  pub refused-untouched : (w : Waiting) (c : Cause) (p : ℕ) → asking f n R O (length room) .answer ≡ Refused w c p
+  pub refused-untouched : (w : Waiting) (c : Cause) (p : ℕ) → asking f n R O (length room) .answer ≡ ask.Refused w c p
       → (feedNumbers f n R O (length room) ≡ n) × (feedRoom f n R O room ≡ room)
   refused-untouched w c p e = kept w c p verdict refl e

@@ -4,11 +4,11 @@ use mathlib.Core.List.{List, []}
 use Rattle.cause.specs.Causes.{causeNumber}
 use Rattle.reader.specs.Reading.{readerWith, reading, readRoom}
 use Rattle.reader.specs.declared.reader.Answer.{Answer}
-use Rattle.reader.specs.declared.reader.Answer.the-variants.{Done, Refused}
+use Rattle.reader.specs.declared.reader.Answer.the-variants.{Accepted, Refused}
 
 -- 0, or cause·65,536 + place
 abbrev pub codeOf : Answer → ℕ
-codeOf (Done n grant) = 0
+codeOf (Accepted n grant) = 0
 codeOf (Refused c p) = causeNumber c * 65_536 + p
 
 -- the check of container c in format f with a room of n bytes

@@ -7,7 +7,7 @@ use lib.ListN.{length, getD}
 use lib.Dec.{eqb, leb}
 use Rattle.lists.specs.Parts.{put}
 use Rattle.cause.specs.Causes.{causeNumber}
-use Rattle.cause.specs.Checks.{Check, check, firstFault, whenSound}
+use Rattle.cause.specs.Checks.{Check, check, firstFault, whenAccepted}
 use Rattle.cause.specs.declared.Cause.the-variants.{RoomTooSmall, InvalidState}
 use Rattle.feeder.specs.Feeding.{feedOk, stepBy, feeding, fedPart}
 use Rattle.feeder.specs.declared.found.Waiting.{Waiting}
@@ -71,12 +71,12 @@ feedCode f n responses others room =
 -- the three numbers afterwards
 unfoldable pub feedNumbers : ℕ → List ℕ → List ℕ → List ℕ → ℕ → List ℕ
 feedNumbers f n responses others room =
-    whenSound (firstFault (callChecks f n (length responses) (length others) room)) (numbersOf (feeding f responses others (feedFrom n) .feed)) n
+    whenAccepted (firstFault (callChecks f n (length responses) (length others) room)) (numbersOf (feeding f responses others (feedFrom n) .feed)) n
 
 -- the room afterwards: the record at its front
 unfoldable pub feedRoom : ℕ → List ℕ → List ℕ → List ℕ → List ℕ → List ℕ
 feedRoom f n responses others room =
-    whenSound (firstFault (callChecks f n (length responses) (length others) (length room))) (put 0 (fedPart f responses others (feedFrom n)) room) room
+    whenAccepted (firstFault (callChecks f n (length responses) (length others) (length room))) (put 0 (fedPart f responses others (feedFrom n)) room) room
 
 -- what a code tells: its highest byte is the cause, 0 where nothing is refused, the next one the list, and the rest the record's bytes or
 -- the place

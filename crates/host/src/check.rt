@@ -12,13 +12,13 @@ pub extern "C" fn c2c_check(format: u32, container: &[u8], room: &mut [u8]) -> u
     ensures code { λ r. ⌜ r ≡ checkCode format (now (container .entry)) (length (now (room .entry))) ⌝ }
     ensures room { λ _. ⌜ now (room .exit) ≡ checkRoom format (now (container .entry)) (now (room .entry)) ⌝ }
 {
-    let opened = Reader::fresh(format);
-    let reader = opened.reader;
+    let created = Reader::fresh(format);
+    let reader = created.reader;
     let step = reader.read(container, room);
     let answer = step.answer;
     match answer {
-        Answer::Done {
-            length: _,
+        Answer::Accepted {
+            written: _,
             grant: _,
         } => 0,
         Answer::Refused { cause, place } => number_cause(cause) * 65536 + place as u32,

@@ -70,15 +70,15 @@ fn check_call(format: u32, numbers: &[u32], responses: usize, others: usize, roo
     ensures { λ r. ⌜ r ≡ firstFault (callChecks format (now (numbers .entry)) responses others room) ⌝ }
 {
     if numbers.len() != NUMBERS {
-        return Verdict::Faulty(Cause::InvalidState, 0);
+        return Verdict::Refused(Cause::InvalidState, 0);
     }
     if !load_feed(numbers).is_valid(format, responses, others) {
-        return Verdict::Faulty(Cause::InvalidState, 0);
+        return Verdict::Refused(Cause::InvalidState, 0);
     }
     if room < LONGEST_RECORD {
-        return Verdict::Faulty(Cause::RoomTooSmall, 0);
+        return Verdict::Refused(Cause::RoomTooSmall, 0);
     }
-    Verdict::Sound
+    Verdict::Accepted
 }
 
 // The number of a waiting list.
@@ -120,7 +120,7 @@ pub extern "C" fn c2c_feed(
     ensures room { λ _. ⌜ now (room .exit) ≡ feedRoom format (now (feed .entry)) (now (responses .entry)) (now (others .entry)) (now (room .entry)) ⌝ }
 {
     let verdict = check_call(format, feed, responses.len(), others.len(), room.len());
-    if let Verdict::Faulty(cause, place) = verdict {
+    if let Verdict::Refused(cause, place) = verdict {
         let refusal = Answer::Refused {
             list: Waiting::Neither,
             cause: cause,

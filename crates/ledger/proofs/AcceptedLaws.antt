@@ -1,4 +1,4 @@
--- What an accepted entry has passed, and what it does to the books. Assumes nothing.
+-- What an accepted entry has passed, and what it does to the counts. Assumes nothing.
 use Prim.Native.Nat.{ℕ, zero, suc, _+_, _-_, _*_, _≤_, _<_}
 use mathlib.Core.Path.{_≡_, refl, sym, ap, _∙_}
 use mathlib.Core.Bool.{true, false}
@@ -11,14 +11,14 @@ use lib.Dec.{eqb, ltb}
 use borrow.Author.Tests.{eqb-true, ltb-true, leb-true, eq-eqb, ne-eqb, lt-ltb, le-leb}
 use Rattle.lists.proofs.Tests.{and-left, and-right, and-both}
 use Rattle.cause.specs.Checks.{Pass, firstFault, passes}
-use Rattle.cause.specs.declared.Verdict.the-variants.{Sound}
-use Rattle.cause.proofs.CheckLaws.{sound-pass, pass-sound, pass-front, pass-back, pass-append}
+use Rattle.cause.specs.declared.Verdict.the-variants.{Accepted}
+use Rattle.cause.proofs.CheckLaws.{accepted-pass, pass-accepted, pass-front, pass-back, pass-append}
 use Rattle.message.specs.Charges.{charges}
 use Rattle.reader.specs.Reading.{readerOk, carried, stateChecks, judgeChecks, nextReader}
 use Rattle.reader.specs.declared.reader.Reader.{Reader}
 use Rattle.reader.proofs.CarryLaws.{next-valid}
 use Rattle.pools.specs.Pools.{messageChecks, allMessages, allGrants, chargedTo, paidTo, grantedTo}
-use Rattle.ledger.specs.Audit.{receiverOf, readerOf, heldOf, openOf, ledgerOk, opposite, begun, finished, granted, heldChecks, roomChecks, auditChecks, heldAfter, openAfter, nextLedger}
+use Rattle.ledger.specs.Audit.{receiverOf, readerOf, heldOf, openOf, ledgerOk, opposite, begun, finished, granted, creditChecks, capacityChecks, auditChecks, heldAfter, openAfter, nextLedger}
 use Rattle.pools.specs.Rows.{row, table}
 use Rattle.ledger.specs.declared.ledger.Ledger.{Ledger}
 use Rattle.container.specs.declared.grant.Grant.{Grant}
@@ -40,8 +40,8 @@ table-at f (suc (suc e)) p h k = absurd (omega arith)
 later : (p i : ℕ) → p + suc i ≡ (p + 1) + i
 later p i = omega arith
 
-held-at : (s : Ledger) (d : ℕ) (ms : List (List ℕ)) (k p i : ℕ) → Pass (heldChecks s d ms k p) → i < k → paidTo (p + i) ms ≤ heldOf s d (p + i)
-unfolding heldChecks
+held-at : (s : Ledger) (d : ℕ) (ms : List (List ℕ)) (k p i : ℕ) → Pass (creditChecks s d ms k p) → i < k → paidTo (p + i) ms ≤ heldOf s d (p + i)
+unfolding creditChecks
 held-at s d ms zero p i h b = absurd (omega arith)
 held-at s d ms (suc k) p zero h b =
     let e : p + 0 ≡ p = omega arith in
@@ -52,33 +52,33 @@ held-at s d ms (suc k) p (suc i) h b =
 abbrev Fits : Ledger → ℕ → List Grant → ℕ → Type 0
 Fits s d ns p = heldOf s d p + (grantedTo p ns + openOf s d p) ≤ getD (receiverOf s d .capacities) p 0
 
-room-at : (s : Ledger) (d : ℕ) (ns : List Grant) (k p i : ℕ) → Pass (roomChecks s d ns k p) → i < k → Fits s d ns (p + i)
-unfolding roomChecks
-room-at s d ns zero p i h b = absurd (omega arith)
-room-at s d ns (suc k) p zero h b =
+granted-at : (s : Ledger) (d : ℕ) (ns : List Grant) (k p i : ℕ) → Pass (capacityChecks s d ns k p) → i < k → Fits s d ns (p + i)
+unfolding capacityChecks
+granted-at s d ns zero p i h b = absurd (omega arith)
+granted-at s d ns (suc k) p zero h b =
     let e : p + 0 ≡ p = omega arith in
     rw e (leb-true (heldOf s d p + (grantedTo p ns + openOf s d p)) (getD (receiverOf s d .capacities) p 0) (h .0))
-room-at s d ns (suc k) p (suc i) h b =
-    rw (later p i) (room-at s d ns k (p + 1) i (h .1) (omega arith))
+granted-at s d ns (suc k) p (suc i) h b =
+    rw (later p i) (granted-at s d ns k (p + 1) i (h .1) (omega arith))
 
-held-by : (s : Ledger) (d : ℕ) (ms : List (List ℕ)) (k p : ℕ) → ((i : ℕ) → i < k → paidTo (p + i) ms ≤ heldOf s d (p + i)) → Pass (heldChecks s d ms k p)
-unfolding heldChecks
+held-by : (s : Ledger) (d : ℕ) (ms : List (List ℕ)) (k p : ℕ) → ((i : ℕ) → i < k → paidTo (p + i) ms ≤ heldOf s d (p + i)) → Pass (creditChecks s d ms k p)
+unfolding creditChecks
 held-by s d ms zero p h = tt
 held-by s d ms (suc k) p h =
     let e : p + 0 ≡ p = omega arith in
     (le-leb (paidTo p ms) (heldOf s d p) (rw e at (h 0 (omega arith))), held-by s d ms k (p + 1) (λ i b. rw (later p i) at (h (suc i) (omega arith))))
 
-room-by : (s : Ledger) (d : ℕ) (ns : List Grant) (k p : ℕ) → ((i : ℕ) → i < k → Fits s d ns (p + i)) → Pass (roomChecks s d ns k p)
-unfolding roomChecks
-room-by s d ns zero p h = tt
-room-by s d ns (suc k) p h =
+granted-by : (s : Ledger) (d : ℕ) (ns : List Grant) (k p : ℕ) → ((i : ℕ) → i < k → Fits s d ns (p + i)) → Pass (capacityChecks s d ns k p)
+unfolding capacityChecks
+granted-by s d ns zero p h = tt
+granted-by s d ns (suc k) p h =
     let e : p + 0 ≡ p = omega arith in (
       le-leb (heldOf s d p + (grantedTo p ns + openOf s d p)) (getD (receiverOf s d .capacities) p 0) (rw e at (h 0 (omega arith))),
-      room-by s d ns k (p + 1) (λ i b. rw (later p i) at (h (suc i) (omega arith))),
+      granted-by s d ns k (p + 1) (λ i b. rw (later p i) at (h (suc i) (omega arith))),
     )
 
 -- an entry that has passed every check
-pub record Accepted (s : Ledger) (d : ℕ) (c : List ℕ) : Type 0 where
+pub record AcceptedEntry (s : Ledger) (d : ℕ) (c : List ℕ) : Type 0 where
   pub direction : d < 2
   pub ledger : ledgerOk s ≡ true
   pub long : length c ≡ 256
@@ -89,15 +89,15 @@ pub record Accepted (s : Ledger) (d : ℕ) (c : List ℕ) : Type 0 where
   pub fits : (p : ℕ) → p < 14 → Fits s (opposite d) (granted s d c) p
 
 module _ (s : Ledger) (d : ℕ) (c : List ℕ) where
-  pub accepted-by : firstFault (auditChecks s d c) ≡ Sound → Accepted s d c
+  pub accepted-by : firstFault (auditChecks s d c) ≡ Accepted → AcceptedEntry s d c
   unfolding auditChecks
   accepted-by e =
-      let h = sound-pass (auditChecks s d c) e in
+      let h = accepted-pass (auditChecks s d c) e in
       let state = stateChecks (readerOf s d) c in
       let messages = allMessages (receiverOf s d) (begun s d c) in
       let grants = allGrants (receiverOf s (opposite d)) (granted s d c) in
-      let held = heldChecks s d (begun s d c) 14 0 in
-      let room = roomChecks s (opposite d) (granted s d c) 14 0 in
+      let held = creditChecks s d (begun s d c) 14 0 in
+      let room = capacityChecks s (opposite d) (granted s d c) 14 0 in
       let a = pass-back state (messages ++ (grants ++ (held ++ room))) (h .1 .1) in
       let b = pass-back messages (grants ++ (held ++ room)) a in
       let q = pass-back grants (held ++ room) b in
@@ -109,19 +109,19 @@ module _ (s : Ledger) (d : ℕ) (c : List ℕ) where
         messages = pass-front messages (grants ++ (held ++ room)) a;
         grants = pass-front grants (held ++ room) b;
         covered = λ p i. rw (zero-add p) at (held-at s d (begun s d c) 14 0 p (pass-front held room q) i);
-        fits = λ p i. rw (zero-add p) at (room-at s (opposite d) (granted s d c) 14 0 p (pass-back held room q) i);
+        fits = λ p i. rw (zero-add p) at (granted-at s (opposite d) (granted s d c) 14 0 p (pass-back held room q) i);
       }
 
-  pub accepted-sound : Accepted s d c → firstFault (auditChecks s d c) ≡ Sound
+  pub entry-checks-accepted : AcceptedEntry s d c → firstFault (auditChecks s d c) ≡ Accepted
   unfolding auditChecks
-  accepted-sound a =
+  entry-checks-accepted a =
       let state = stateChecks (readerOf s d) c in
       let messages = allMessages (receiverOf s d) (begun s d c) in
       let grants = allGrants (receiverOf s (opposite d)) (granted s d c) in
-      let held = heldChecks s d (begun s d c) 14 0 in
-      let room = roomChecks s (opposite d) (granted s d c) 14 0 in
-      let pools : Pass (held ++ room) = pass-append held room (held-by s d (begun s d c) 14 0 (λ i b. rw (zero-add i) (a .covered i b))) (room-by s (opposite d) (granted s d c) 14 0 (λ i b. rw (zero-add i) (a .fits i b))) in
-      pass-sound (auditChecks s d c) (
+      let held = creditChecks s d (begun s d c) 14 0 in
+      let room = capacityChecks s (opposite d) (granted s d c) 14 0 in
+      let pools : Pass (held ++ room) = pass-append held room (held-by s d (begun s d c) 14 0 (λ i b. rw (zero-add i) (a .covered i b))) (granted-by s (opposite d) (granted s d c) 14 0 (λ i b. rw (zero-add i) (a .fits i b))) in
+      pass-accepted (auditChecks s d c) (
         and-both (ltb d 2) (ledgerOk s) (lt-ltb d 2 (a .direction)) (a .ledger),
         (
           eq-eqb (length c) 256 (a .long),
@@ -129,7 +129,7 @@ module _ (s : Ledger) (d : ℕ) (c : List ℕ) where
         ),
       )
 
--- ---- the books behind an accepted entry
+-- ---- the counts behind an accepted entry
 -- the other of two directions
 opposite-below : (d : ℕ) → d < 2 → opposite d < 2
 opposite-below d h = omega arith
@@ -164,7 +164,7 @@ module _ (s : Ledger) (d : ℕ) (c : List ℕ) where
   unfolding nextLedger
   receivers-kept e = refl
 
-  module _ (a : Accepted s d c) where
+  module _ (a : AcceptedEntry s d c) where
     here : ValidDirection s d
     here = ledger-valid s d (a .ledger) (a .direction)
 
@@ -208,9 +208,9 @@ module _ (s : Ledger) (d : ℕ) (c : List ℕ) where
         let o = open-own p h in
         omega arith
 
-    judged : firstFault (judgeChecks (readerOf s d) c) ≡ Sound
+    judged : firstFault (judgeChecks (readerOf s d) c) ≡ Accepted
     unfolding judgeChecks
-    judged = pass-sound (judgeChecks (readerOf s d) c) (here .reader, (eq-eqb (length c) 256 (a .long), a .reads))
+    judged = pass-accepted (judgeChecks (readerOf s d) c) (here .reader, (eq-eqb (length c) 256 (a .long), a .reads))
 
     passed : passes (firstFault (messageChecks (receiverOf s d) (carried (nextReader (readerOf s d) c)))) ≡ true
     unfolding begun
@@ -241,7 +241,7 @@ module _ (s : Ledger) (d : ℕ) (c : List ℕ) where
         }
 
 -- an accepted entry leaves a valid ledger
-pub next-ledger-valid : (s : Ledger) (d : ℕ) (c : List ℕ) → Accepted s d c → ledgerOk (nextLedger s d c) ≡ true
+pub next-ledger-valid : (s : Ledger) (d : ℕ) (c : List ℕ) → AcceptedEntry s d c → ledgerOk (nextLedger s d c) ≡ true
 next-ledger-valid s zero c a = valid-ledger (nextLedger s 0 c) (own-valid s 0 c a) (other-valid s 0 c a)
 next-ledger-valid s (suc zero) c a = valid-ledger (nextLedger s 1 c) (other-valid s 1 c a) (own-valid s 1 c a)
 next-ledger-valid s (suc (suc d)) c a = absurd (let b = a .direction in omega arith)

@@ -14,7 +14,7 @@ use Rattle.cause.specs.Checks.{Check, check, firstFault}
 use Rattle.cause.specs.declared.Cause.{Cause}
 use Rattle.cause.specs.declared.Cause.the-variants.{InvalidState, ContainerLength, MissingPool, BegunOverGranted, GrantedOverCapacity}
 use Rattle.cause.specs.declared.Verdict.{Verdict}
-use Rattle.cause.specs.declared.Verdict.the-variants.{Sound, Faulty}
+use Rattle.cause.specs.declared.Verdict.the-variants.{Accepted, Refused}
 use Rattle.container.specs.Layout.{Format, formatOf}
 use Rattle.container.specs.Grants.{headerGrant}
 use Rattle.container.specs.declared.grant.Grant.{Grant}
@@ -25,10 +25,9 @@ use Rattle.reader.specs.Reading.{carried, stateChecks}
 use Rattle.placement.proofs.ProgressLaws.{listFrom, cells-of}
 use Rattle.pools.specs.PoolRules.{grantIn, capacityOf}
 use Rattle.pools.specs.Pools.{messageChecks, grantChecks, allMessages, allGrants, paidTo, grantedTo, grantsIn}
-use Rattle.ledger.specs.Audit.{receiverOf, readerOf, heldOf, openOf, ledgerOk, opposite, begun, granted, heldChecks, roomChecks, auditChecks, answerOf, auditing}
+use Rattle.ledger.specs.Audit.{receiverOf, readerOf, heldOf, openOf, ledgerOk, opposite, begun, granted, creditChecks, capacityChecks, auditChecks, auditing}
 use Rattle.pools.specs.declared.receiver.Receiver.{Receiver}
 use Rattle.ledger.specs.declared.ledger.Ledger.{Ledger}
-use Rattle.ledger.specs.declared.ledger.Answer.the-variants as answer
 use Rattle.pools.specs.Faults.{PaymentFault, GrantFault}
 use Rattle.pools.proofs.PoolFaults.{paymentSites, payment-rises, payment-sounds, payment-fails, grantSites, grant-rises, grant-sounds, grant-fails}
 use Rattle.cause.proofs.NamedLaws.{turnOf}
@@ -160,21 +159,21 @@ module _ (r : Receiver) (f : ℕ → Cell) where
 -- ---- 15 and 16, by pools
 module _ (s : Ledger) (d : ℕ) where
   module _ (ms : List (List ℕ)) where
-    held-rise : (k p : ℕ) → Rises (600 + p) (ranked (heldChecks s d ms k p)) (600 + (p + k))
-    unfolding heldChecks
+    held-rise : (k p : ℕ) → Rises (600 + p) (ranked (creditChecks s d ms k p)) (600 + (p + k))
+    unfolding creditChecks
     held-rise zero p = omega arith
     held-rise (suc k) p =
         let e : p + suc k ≡ p + 1 + k = omega arith in
-        (omega arith, rises-from (suc (600 + p)) (600 + (p + 1)) (ranked (heldChecks s d ms k (p + 1))) (600 + (p + suc k)) (omega arith) (rw e (held-rise k (p + 1))))
+        (omega arith, rises-from (suc (600 + p)) (600 + (p + 1)) (ranked (creditChecks s d ms k (p + 1))) (600 + (p + suc k)) (omega arith) (rw e (held-rise k (p + 1))))
 
     held-sound : (R : ℕ → Cause → ℕ → Type 0) → ((p : ℕ) → p < 14 → heldOf s d p < paidTo p ms → R (600 + p) BegunOverGranted p)
-        → (k p : ℕ) → p + k ≤ 14 → Sounds R (ranked (heldChecks s d ms k p))
-    unfolding heldChecks
+        → (k p : ℕ) → p + k ≤ 14 → Sounds R (ranked (creditChecks s d ms k p))
+    unfolding creditChecks
     held-sound R h zero p b = tt
     held-sound R h (suc k) p b = (λ t. h p (omega arith) (leb-false (paidTo p ms) (heldOf s d p) t), held-sound R h k (p + 1) (omega arith))
 
-    held-fails : (k p j : ℕ) → p ≤ j → j < p + k → heldOf s d j < paidTo j ms → Fails (600 + j) BegunOverGranted j (ranked (heldChecks s d ms k p))
-    unfolding heldChecks
+    held-fails : (k p j : ℕ) → p ≤ j → j < p + k → heldOf s d j < paidTo j ms → Fails (600 + j) BegunOverGranted j (ranked (creditChecks s d ms k p))
+    unfolding creditChecks
     held-fails zero p j a b h = absurd (omega arith)
     held-fails (suc k) p j a b h =
         ⊎-elim (λ (e : eqb j p ≡ true). let q = eqb-true j p e in inl (let z : 600 + p ≡ 600 + j = omega arith in z, ap (λ (i : ℕ). check (leb (paidTo i ms) (heldOf s d i)) BegunOverGranted i) (sym q) ∙ fails-as _ _ _ (lt-leb (paidTo j ms) (heldOf s d j) h)))
@@ -188,25 +187,25 @@ module _ (s : Ledger) (d : ℕ) where
     abbrev needed : ℕ → ℕ
     needed p = heldOf s d p + (grantedTo p ns + openOf s d p)
 
-    room-rise : (k p : ℕ) → Rises (700 + p) (ranked (roomChecks s d ns k p)) (700 + (p + k))
-    unfolding roomChecks
-    room-rise zero p = omega arith
-    room-rise (suc k) p =
+    granted-rise : (k p : ℕ) → Rises (700 + p) (ranked (capacityChecks s d ns k p)) (700 + (p + k))
+    unfolding capacityChecks
+    granted-rise zero p = omega arith
+    granted-rise (suc k) p =
         let e : p + suc k ≡ p + 1 + k = omega arith in
-        (omega arith, rises-from (suc (700 + p)) (700 + (p + 1)) (ranked (roomChecks s d ns k (p + 1))) (700 + (p + suc k)) (omega arith) (rw e (room-rise k (p + 1))))
+        (omega arith, rises-from (suc (700 + p)) (700 + (p + 1)) (ranked (capacityChecks s d ns k (p + 1))) (700 + (p + suc k)) (omega arith) (rw e (granted-rise k (p + 1))))
 
-    room-sound : (R : ℕ → Cause → ℕ → Type 0) → ((p : ℕ) → p < 14 → room p < needed p → R (700 + p) GrantedOverCapacity p)
-        → (k p : ℕ) → p + k ≤ 14 → Sounds R (ranked (roomChecks s d ns k p))
-    unfolding roomChecks
-    room-sound R h zero p b = tt
-    room-sound R h (suc k) p b = (λ t. h p (omega arith) (leb-false (needed p) (room p) t), room-sound R h k (p + 1) (omega arith))
+    granted-sound : (R : ℕ → Cause → ℕ → Type 0) → ((p : ℕ) → p < 14 → room p < needed p → R (700 + p) GrantedOverCapacity p)
+        → (k p : ℕ) → p + k ≤ 14 → Sounds R (ranked (capacityChecks s d ns k p))
+    unfolding capacityChecks
+    granted-sound R h zero p b = tt
+    granted-sound R h (suc k) p b = (λ t. h p (omega arith) (leb-false (needed p) (room p) t), granted-sound R h k (p + 1) (omega arith))
 
-    room-fails : (k p j : ℕ) → p ≤ j → j < p + k → room j < needed j → Fails (700 + j) GrantedOverCapacity j (ranked (roomChecks s d ns k p))
-    unfolding roomChecks
-    room-fails zero p j a b h = absurd (omega arith)
-    room-fails (suc k) p j a b h =
+    granted-fails : (k p j : ℕ) → p ≤ j → j < p + k → room j < needed j → Fails (700 + j) GrantedOverCapacity j (ranked (capacityChecks s d ns k p))
+    unfolding capacityChecks
+    granted-fails zero p j a b h = absurd (omega arith)
+    granted-fails (suc k) p j a b h =
         ⊎-elim (λ (e : eqb j p ≡ true). let q = eqb-true j p e in inl (let z : 700 + p ≡ 700 + j = omega arith in z, ap (λ (i : ℕ). check (leb (needed i) (room i)) GrantedOverCapacity i) (sym q) ∙ fails-as _ _ _ (lt-leb (needed j) (room j) h)))
-        (λ (e : eqb j p ≡ false). let q = eqb-false j p e in inr (room-fails k (p + 1) j (omega arith) (omega arith) h))
+        (λ (e : eqb j p ≡ false). let q = eqb-false j p e in inr (granted-fails k (p + 1) j (omega arith) (omega arith) h))
         (cases (eqb j p))
 
 -- ---- an entry
@@ -243,10 +242,10 @@ module _ (s : Ledger) (d : ℕ) (c : List ℕ) where
   crdts = crdtSites far cell 12 0
 
   abbrev helds : List Site
-  helds = ranked (heldChecks s d (begun s d c) 14 0)
+  helds = ranked (creditChecks s d (begun s d c) 14 0)
 
   abbrev rooms : List Site
-  rooms = ranked (roomChecks s (opposite d) (granted s d c) 14 0)
+  rooms = ranked (capacityChecks s (opposite d) (granted s d c) 14 0)
 
   abbrev sites : List Site
   sites =
@@ -260,7 +259,7 @@ module _ (s : Ledger) (d : ℕ) (c : List ℕ) where
       (crdt-tests far cell 12 0 ∙ ap (λ (l : List (List ℕ)). allGrants far (grantsIn l)) (sym begun-as))
 
   rest-tests : tests (payments ++ (heading' ++ (crdts ++ (helds ++ rooms))))
-      ≡ allMessages own (begun s d c) ++ (allGrants far (granted s d c) ++ (heldChecks s d (begun s d c) 14 0 ++ roomChecks s (opposite d) (granted s d c) 14 0))
+      ≡ allMessages own (begun s d c) ++ (allGrants far (granted s d c) ++ (creditChecks s d (begun s d c) 14 0 ++ capacityChecks s (opposite d) (granted s d c) 14 0))
   rest-tests =
       tests-append payments (heading' ++ (crdts ++ (helds ++ rooms)))
       ∙ ap (λ (l : List Check). l ++ tests (heading' ++ (crdts ++ (helds ++ rooms)))) (message-tests own cell 12 0 ∙ ap (allMessages own) (sym begun-as))
@@ -269,8 +268,8 @@ module _ (s : Ledger) (d : ℕ) (c : List ℕ) where
       ∙ ap (λ (l : List Check). l ++ tests (helds ++ rooms)) grants-tests
       ∙ ap (λ (l : List Check). allGrants far (granted s d c) ++ l)
       (tests-append helds rooms
-      ∙ ap (λ (l : List Check). l ++ tests rooms) (tests-ranked (heldChecks s d (begun s d c) 14 0))
-      ∙ ap (λ (l : List Check). heldChecks s d (begun s d c) 14 0 ++ l) (tests-ranked (roomChecks s (opposite d) (granted s d c) 14 0))))
+      ∙ ap (λ (l : List Check). l ++ tests rooms) (tests-ranked (creditChecks s d (begun s d c) 14 0))
+      ∙ ap (λ (l : List Check). creditChecks s d (begun s d c) 14 0 ++ l) (tests-ranked (capacityChecks s (opposite d) (granted s d c) 14 0))))
 
   sites-tests : tests sites ≡ auditChecks s d c
   unfolding auditChecks stateChecks
@@ -291,7 +290,7 @@ module _ (s : Ledger) (d : ℕ) (c : List ℕ) where
           (rises-append 536 heading' 550 (crdts ++ (helds ++ rooms)) 800 (omega arith, (omega arith, omega arith))
           (rises-append 550 crdts 600 (helds ++ rooms) 800 (rises-to 550 crdts 574 600 (omega arith) (crdts-rise far cell 12 0))
           (rises-append 600 helds 700 rooms 800 (rises-to 600 helds 614 700 (omega arith) (held-rise s d (begun s d c) 14 0))
-          (rises-to 700 rooms 714 800 (omega arith) (room-rise s (opposite d) (granted s d c) 14 0))))))),
+          (rises-to 700 rooms 714 800 (omega arith) (granted-rise s (opposite d) (granted s d c) 14 0))))))),
     ),
   )
 
@@ -317,7 +316,7 @@ module _ (s : Ledger) (d : ℕ) (c : List ℕ) where
           (sounds-append Of heading' (crdts ++ (helds ++ rooms)) (grant-sounds far (headerGrant fm c) Of 540 (λ u p f. (40 + u, omega arith, heading u p f)))
           (sounds-append Of crdts (helds ++ rooms) (crdts-sound far cell Of (λ g u p b st f. let w = misc-so (cell g) st in (50 + 2 * g + u, omega arith, granting g u p b (w .0) (w .1) (w .2) f)) 12 0 (omega arith))
           (sounds-append Of helds rooms (held-sound s d (begun s d c) Of (λ p b h. (p, refl, over p b h)) 14 0 (omega arith))
-          (room-sound s (opposite d) (granted s d c) Of (λ p b h. (p, refl, full p b h)) 14 0 (omega arith)))))),
+          (granted-sound s (opposite d) (granted s d c) Of (λ p b h. (p, refl, full p b h)) 14 0 (omega arith)))))),
     ),
   )
 
@@ -350,7 +349,7 @@ module _ (s : Ledger) (d : ℕ) (c : List ℕ) where
   sites-complete k t p (over q b h) =
       in-rest _ _ _ (inr (inr (fails-back _ _ _ crdts (helds ++ rooms) (fails-front (600 + q) BegunOverGranted q helds rooms (held-fails s d (begun s d c) 14 0 q (omega arith) (omega arith) h)))))
   sites-complete k t p (full q b h) =
-      in-rest _ _ _ (inr (inr (fails-back _ _ _ crdts (helds ++ rooms) (fails-back (700 + q) GrantedOverCapacity q helds rooms (room-fails s (opposite d) (granted s d c) 14 0 q (omega arith) (omega arith) h)))))
+      in-rest _ _ _ (inr (inr (fails-back _ _ _ crdts (helds ++ rooms) (fails-back (700 + q) GrantedOverCapacity q helds rooms (granted-fails s (opposite d) (granted s d c) 14 0 q (omega arith) (omega arith) h)))))
 
   audit-lists : Lists Of (auditChecks s d c)
   audit-lists = record {
@@ -362,20 +361,12 @@ module _ (s : Ledger) (d : ℕ) (c : List ℕ) where
     complete = λ r k p f. subst (λ (n : ℕ). Fails n k p sites) (f .1) (sites-complete k (f .0) p (f .2));
   }
 
-  refused-as : (v : Verdict) (k : Cause) (p : ℕ) → (answerOf v ≡ answer.Refused k p) ↔ (v ≡ Faulty k p)
-  refused-as Sound k p = (λ e. let z : _≡_ {A = ℕ} 0 1 = cc in absurd (omega arith), λ e. let z : _≡_ {A = ℕ} 0 1 = cc in absurd (omega arith))
-  refused-as (Faulty a b) k p = (λ e. cc, λ e. cc)
-
-  accepted-as : (v : Verdict) → (answerOf v ≡ answer.Accepted) ↔ (v ≡ Sound)
-  accepted-as Sound = (λ e. refl, λ e. refl)
-  accepted-as (Faulty a b) = (λ e. let z : _≡_ {A = ℕ} 0 1 = cc in absurd (omega arith), λ e. let z : _≡_ {A = ℕ} 0 1 = cc in absurd (omega arith))
-
   -- the audit refuses with a cause and a place exactly where it is the first fault
-  pub audit-first : (k : Cause) (p : ℕ) → (auditing s d c .answer ≡ answer.Refused k p) ↔ First Of k p
+  pub audit-first : (k : Cause) (p : ℕ) → (auditing s d c .answer ≡ Refused k p) ↔ First Of k p
   unfolding auditing
-  audit-first k p = chain (refused-as (firstFault (auditChecks s d c)) k p) (listed-first audit-lists k p)
+  audit-first k p = listed-first audit-lists k p
 
   -- and accepts exactly where there is none
-  pub audit-none : (auditing s d c .answer ≡ answer.Accepted) ↔ None Of
+  pub audit-none : (auditing s d c .answer ≡ Accepted) ↔ None Of
   unfolding auditing
-  audit-none = chain (accepted-as (firstFault (auditChecks s d c))) (listed-none audit-lists)
+  audit-none = listed-none audit-lists

@@ -22,7 +22,6 @@ use Rattle.reader.specs.Reading.{carried}
 use Rattle.reader.proofs.CarryLaws.{reader-ok}
 use Rattle.ledger.specs.Audit.{readerOf, directionOk, ledgerOk, auditing}
 use Rattle.ledger.specs.declared.ledger.Ledger.{Ledger}
-use Rattle.ledger.specs.declared.ledger.Answer.the-variants as answer
 use Rattle.ledger.proofs.ValidLaws.{direction-valid}
 use Rattle.ledger.proofs.ValidLedgerLaws.{ledger-exactly}
 use Rattle.ledger.specs.Faults.{AuditFault}
@@ -32,6 +31,7 @@ use Rattle.ledger.proofs.EntryFaults.{AuditCells}
 use Rattle.cause.proofs.RankedLaws.{chain}
 use Rattle.ledger.proofs.AuditFaults.{Turned, audit-first, audit-none}
 use Rattle.placement.proofs.ContainerTable.{cells-late, rows-late, Before, row-of, of-row, starts-in, starts-cell}
+use Rattle.cause.specs.declared.Verdict.the-variants.{Accepted, Refused}
 
 module _ (s : Ledger) (d : ℕ) (c : List ℕ) where
   abbrev fm : Format
@@ -107,8 +107,8 @@ module _ (s : Ledger) (d : ℕ) (c : List ℕ) where
         (w .0, w .1, (x .0, ap (λ (i : ℕ). rank i (x .0)) (w .1) ∙ x .1, w .2));
   }
 
-  pub audit-refused : (k : Cause) (p : ℕ) → (auditing s d c .answer ≡ answer.Refused k p) ↔ NamedBy (AuditFault s d c) k p
+  pub audit-refused : (k : Cause) (p : ℕ) → (auditing s d c .answer ≡ Refused k p) ↔ NamedBy (AuditFault s d c) k p
   audit-refused k p = chain (audit-first s d c k p) (first-named-by same k p)
 
-  pub audit-accepted : (auditing s d c .answer ≡ answer.Accepted) ↔ NoneBy (AuditFault s d c)
+  pub audit-accepted : (auditing s d c .answer ≡ Accepted) ↔ NoneBy (AuditFault s d c)
   audit-accepted = chain (audit-none s d c) (none-named-by same)

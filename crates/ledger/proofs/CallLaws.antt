@@ -5,8 +5,8 @@ use mathlib.Core.List.{List, [], _∷_, _++_}
 use Rattle.ledger.specs.Audit.{ledgerOk, auditing}
 use Rattle.ledger.specs.Calls.{Entry, AllAccepted, behind}
 use Rattle.ledger.specs.declared.ledger.Ledger.{Ledger}
-use Rattle.ledger.specs.declared.ledger.Answer.the-variants.{Accepted}
 use Rattle.ledger.proofs.AnswerLaws.{audit-keeps}
+use Rattle.cause.specs.declared.Verdict.the-variants.{Accepted}
 
 abbrev next : Ledger → Entry → Ledger
 next s e = auditing s (e .direction) (e .container) .ledger

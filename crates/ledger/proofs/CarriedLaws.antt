@@ -11,8 +11,8 @@ use lib.Seq.{take-at}
 use Rattle.lists.specs.Pick.{pick}
 use Rattle.lists.proofs.Tests.{cases}
 use Rattle.cause.specs.Checks.{Pass, firstFault, passes}
-use Rattle.cause.specs.declared.Verdict.the-variants.{Sound}
-use Rattle.cause.proofs.CheckLaws.{pass-sound, pass-front, pass-back}
+use Rattle.cause.specs.declared.Verdict.the-variants.{Accepted}
+use Rattle.cause.proofs.CheckLaws.{pass-accepted, pass-front, pass-back}
 use Rattle.container.specs.Layout.{formatOf}
 use Rattle.message.specs.Charges.{charges, chargesBy, listed}
 use Rattle.placement.specs.Cells.{cells, endings, startings, carryAfter}
@@ -45,7 +45,7 @@ pass-fails : (r : Receiver) (ms : List (List ℕ)) → Pass (allMessages r ms) �
 unfolding allMessages
 pass-fails r [] h = refl
 pass-fails r (m ∷ ms) h =
-    let e : firstFault (messageChecks r m) ≡ Sound = pass-sound (messageChecks r m) (pass-front (messageChecks r m) (allMessages r ms) h) in
+    let e : firstFault (messageChecks r m) ≡ Accepted = pass-accepted (messageChecks r m) (pass-front (messageChecks r m) (allMessages r ms) h) in
     let i = pass-fails r ms (pass-back (messageChecks r m) (allMessages r ms) h) in
     let z : failBy r (getD m 0 0) (getD m 1 0) ≡ 0 = rw e in
     omega arith

@@ -15,8 +15,8 @@ use Rattle.lists.proofs.Tests.{and-left, and-right, and-both}
 use Rattle.lists.proofs.PickLaws.{pick-both}
 use Rattle.lists.proofs.ZeroLaws.{zeros-at, zeros-replicate}
 use Rattle.cause.specs.Checks.{Pass, firstFault}
-use Rattle.cause.specs.declared.Verdict.the-variants.{Sound}
-use Rattle.cause.proofs.CheckLaws.{pass-sound, sound-pass, pass-append}
+use Rattle.cause.specs.declared.Verdict.the-variants.{Accepted}
+use Rattle.cause.proofs.CheckLaws.{pass-accepted, accepted-pass, pass-append}
 use Rattle.container.specs.Layout.{Format, formatOf, msgStart, bit}
 use Rattle.container.specs.Grants.{grantOf, headerGrant}
 use Rattle.container.specs.declared.grant.Grant.{Grant}
@@ -25,16 +25,15 @@ use Rattle.placement.specs.Checking.{granuleChecks, groupChecks, containerCheck
 use Rattle.reader.specs.Reading.{carryWith, carried, stateChecks, judgeChecks, nextReader}
 use Rattle.reader.specs.declared.carry.Carry.{Carry}
 use Rattle.reader.specs.declared.reader.Reader.{Reader}
-use Rattle.reader.specs.declared.reader.Judgement.the-variants as judgement
-use Rattle.reader.proofs.AnswerLaws.{judge-state, judge-sound, judged-accepted}
+use Rattle.reader.specs.declared.reader.JudgeAnswer.the-variants as judge
+use Rattle.reader.proofs.AnswerLaws.{judge-state, judge-checks-accepted, judged-accepted}
 use Rattle.reader.proofs.CarryLaws.{reader-ok}
 use Rattle.reader.proofs.LinkLaws.{judging-same}
 use Rattle.pools.specs.Pools.{capacitiesOk, allMessages, allGrants, grantsIn, grantedTo, paidTo}
-use Rattle.ledger.specs.Audit.{receiverOf, readerOf, heldOf, openOf, ledgerOk, opposite, begun, finished, granted, heldChecks, roomChecks, auditChecks, heldAfter, openAfter, nextLedger, auditing}
-use Rattle.ledger.specs.CountingMirror.{resting}
+use Rattle.ledger.specs.Audit.{receiverOf, readerOf, heldOf, openOf, ledgerOk, opposite, begun, finished, granted, creditChecks, capacityChecks, auditChecks, heldAfter, openAfter, nextLedger, auditing}
+use Rattle.ledger.specs.CountingMirror.{idleEntry}
 use Rattle.ledger.specs.Idle.{idleFrom}
 use Rattle.ledger.specs.declared.ledger.Ledger.{Ledger}
-use Rattle.ledger.specs.declared.ledger.Answer.the-variants as answer
 use Rattle.ledger.proofs.IdleLaws.{idle-exactly}
 use Rattle.ledger.proofs.TableSelf.{table-by}
 use Rattle.ledger.proofs.ValidLaws.{ValidDirection, ledger-valid}
@@ -46,11 +45,11 @@ blank = replicate 256 0
 abbrev noGrant : Grant
 noGrant = grantOf 0 0 0 0 0
 
-blank-sound : (f : ℕ) → f < 2 → firstFault (containerChecks (formatOf f) blank (cells (formatOf f) blank 12 0 [])) ≡ Sound
+blank-accepted : (f : ℕ) → f < 2 → firstFault (containerChecks (formatOf f) blank (cells (formatOf f) blank 12 0 [])) ≡ Accepted
 unfolding containerChecks granuleChecks groupChecks cells
-blank-sound zero h = refl
-blank-sound (suc zero) h = refl
-blank-sound (suc (suc f)) h = absurd (omega arith)
+blank-accepted zero h = refl
+blank-accepted (suc zero) h = refl
+blank-accepted (suc (suc f)) h = absurd (omega arith)
 
 blank-grant : (f : ℕ) → f < 2 → noGrant ≡ headerGrant (formatOf f) blank
 blank-grant zero h = refl
@@ -95,7 +94,7 @@ chosen : {A : Type 0} (t : Bool) {x : A} (a b : A) → x ≡ pick t a b → (pic
 chosen true a b e = (e, refl)
 chosen false a b e = (refl, e)
 
-module _ (s : Ledger) (d : ℕ) (c : List ℕ) (b : d < 2) (ok : ledgerOk s ≡ true) (n : length c ≡ 256) (e : resting s d c ≡ true) where
+module _ (s : Ledger) (d : ℕ) (c : List ℕ) (b : d < 2) (ok : ledgerOk s ≡ true) (n : length c ≡ 256) (e : idleEntry s d c ≡ true) where
   abbrev r : Reader
   r = readerOf s d
 
@@ -118,13 +117,13 @@ module _ (s : Ledger) (d : ℕ) (c : List ℕ) (b : d < 2) (ok : ledgerOk s ≡ 
       ∙ sym (zeros-at blank (zeros-replicate 256) i)
 
   -- so it passes the reader's checks, grants nothing, and starts nothing
-  read : (firstFault (judgeChecks r c) ≡ Sound) × (noGrant ≡ headerGrant fm c) × (0 ≡ msgStart fm c) × (nextReader r blank ≡ nextReader r c)
+  read : (firstFault (judgeChecks r c) ≡ Accepted) × (noGrant ≡ headerGrant fm c) × (0 ≡ msgStart fm c) × (nextReader r blank ≡ nextReader r c)
   unfolding stateChecks
   read =
       let f = ltb-true (s .format) 2 (reader-ok r (valid .reader) .format) in
-      let m : firstFault (stateChecks r blank) ≡ Sound = rw carried-none (blank-sound (s .format) f) in
-      judged-accepted r c (record { reader = nextReader r blank; judgement = judgement.Accepted noGrant 0 })
-      (judge-sound r blank (valid .reader) refl m (nextReader r blank) refl noGrant (blank-grant (s .format) f) 0 (blank-starts (s .format) f)
+      let m : firstFault (stateChecks r blank) ≡ Accepted = rw carried-none (blank-accepted (s .format) f) in
+      judged-accepted r c (record { reader = nextReader r blank; answer = judge.Accepted noGrant 0 })
+      (judge-checks-accepted r blank (valid .reader) refl m (nextReader r blank) refl noGrant (blank-grant (s .format) f) 0 (blank-starts (s .format) f)
       ∙ sym (judging-same r c blank n refl same)) noGrant 0 refl
 
   begun-none : begun s d c ≡ []
@@ -140,18 +139,18 @@ module _ (s : Ledger) (d : ℕ) (c : List ℕ) (b : d < 2) (ok : ledgerOk s ≡ 
   granted-none = rw begun-none (ap (λ (g : Grant). g ∷ []) (sym (read .1)))
 
   -- 15 and 16
-  held-pass : (k p : ℕ) → Pass (heldChecks s d [] k p)
-  unfolding heldChecks paidTo
+  held-pass : (k p : ℕ) → Pass (creditChecks s d [] k p)
+  unfolding creditChecks paidTo
   held-pass zero p = tt
   held-pass (suc k) p = (le-leb 0 (heldOf s d p) (omega arith), held-pass k (p + 1))
 
   module _ (v : ValidDirection s (opposite d)) where
-    room-pass : (k p : ℕ) → p + k ≤ 14 → Pass (roomChecks s (opposite d) (noGrant ∷ []) k p)
-    unfolding roomChecks
-    room-pass zero p h = tt
-    room-pass (suc k) p h = (
+    granted-pass : (k p : ℕ) → p + k ≤ 14 → Pass (capacityChecks s (opposite d) (noGrant ∷ []) k p)
+    unfolding capacityChecks
+    granted-pass zero p h = tt
+    granted-pass (suc k) p h = (
       rw (gives-none p) (le-leb (heldOf s (opposite d) p + (0 + openOf s (opposite d) p)) (getD (receiverOf s (opposite d) .capacities) p 0) (omega (arith, v .room p (omega arith)))),
-      room-pass k (p + 1) (omega arith),
+      granted-pass k (p + 1) (omega arith),
     )
 
     grant-pass : Pass (allGrants (receiverOf s (opposite d)) (noGrant ∷ []))
@@ -167,15 +166,15 @@ module _ (s : Ledger) (d : ℕ) (c : List ℕ) (b : d < 2) (ok : ledgerOk s ≡ 
   audit-pass =
       let v = ledger-valid s (opposite d) ok (omega arith) in
       let grants = allGrants (receiverOf s (opposite d)) (noGrant ∷ []) in
-      let held = heldChecks s d [] 14 0 in
-      let room = roomChecks s (opposite d) (noGrant ∷ []) 14 0 in
-      let read-pass : Pass (stateChecks r c) = sound-pass (stateChecks r c) (sym (judge-state r c (valid .reader) n) ∙ read .0) in (
+      let held = creditChecks s d [] 14 0 in
+      let room = capacityChecks s (opposite d) (noGrant ∷ []) 14 0 in
+      let read-pass : Pass (stateChecks r c) = accepted-pass (stateChecks r c) (sym (judge-state r c (valid .reader) n) ∙ read .0) in (
         and-both (ltb d 2) (ledgerOk s) (lt-ltb d 2 b) ok,
         (
           eq-eqb (length c) 256 n,
           rw (begun-none, granted-none)
               (pass-append (stateChecks r c) (grants ++ (held ++ room)) read-pass
-              (pass-append grants (held ++ room) (grant-pass v) (pass-append held room (held-pass 14 0) (room-pass v 14 0 (omega arith))))),
+              (pass-append grants (held ++ room) (grant-pass v) (pass-append held room (held-pass 14 0) (granted-pass v 14 0 (omega arith))))),
         ),
       )
 
@@ -218,6 +217,6 @@ module _ (s : Ledger) (d : ℕ) (c : List ℕ) (b : d < 2) (ok : ledgerOk s ≡ 
           }
 
 pub idle-accepted : (s : Ledger) (d : ℕ) (c : List ℕ) → d < 2 → ledgerOk s ≡ true → length c ≡ 256 → length (s .carry0 .bytes) ≡ 100 → length (s .carry1 .bytes) ≡ 100
-    → length (s .held) ≡ 28 → length (s .opened) ≡ 28 → resting s d c ≡ true → auditing s d c ≡ record { ledger = s; answer = answer.Accepted }
+    → length (s .held) ≡ 28 → length (s .opened) ≡ 28 → idleEntry s d c ≡ true → auditing s d c ≡ record { ledger = s; answer = Accepted }
 unfolding auditing
-idle-accepted s d c b ok n n0 n1 nh nw e = rw (pass-sound (auditChecks s d c) (audit-pass s d c b ok n e), ledger-kept s d c b ok n e n0 n1 nh nw)
+idle-accepted s d c b ok n n0 n1 nh nw e = rw (pass-accepted (auditChecks s d c) (audit-pass s d c b ok n e), ledger-kept s d c b ok n e n0 n1 nh nw)

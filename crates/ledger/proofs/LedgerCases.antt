@@ -9,7 +9,7 @@ use borrow.Author.Tests.{not-true, not-false}
 use Rattle.cause.specs.Checks.{firstFault, passes}
 use Rattle.cause.specs.declared.Cause.{Cause}
 use Rattle.cause.specs.declared.Verdict.{Verdict}
-use Rattle.cause.specs.declared.Verdict.the-variants.{Sound, Faulty}
+use Rattle.cause.specs.declared.Verdict.the-variants.{Accepted, Refused}
 use Rattle.message.specs.Charges.{charges}
 use Rattle.reader.specs.Reading.{readerOk, carried}
 use Rattle.reader.specs.declared.reader.Reader.{Reader}
@@ -36,10 +36,10 @@ module _ (s : Ledger) (d : ℕ) {r : Receiver} (er : r ≡ receiverOf s d) {m : 
   carry-verdict : v ≡ firstFault (messageChecks (receiverOf s d) (carried (readerOf s d)))
   carry-verdict = ev ∙ (λ i. firstFault (paymentChecks r (ex i % 16) (ex i) (ey i))) ∙ (λ i. firstFault (messageChecks (er i) (em i)))
 
-  pub carry-faulty : {k : Cause} {p : ℕ} → v ≡ Faulty k p → false ≡ pooled s d
-  carry-faulty e = sym (ap (λ (w : Verdict). passes w && poolsOk s d 14 0) (sym carry-verdict ∙ e))
+  pub carry-refused : {k : Cause} {p : ℕ} → v ≡ Refused k p → false ≡ pooled s d
+  carry-refused e = sym (ap (λ (w : Verdict). passes w && poolsOk s d 14 0) (sym carry-verdict ∙ e))
 
-  pub pools-decide : v ≡ Sound → {t : Bool} → t ≡ poolsOk s d 14 0 → t ≡ pooled s d
+  pub pools-decide : v ≡ Accepted → {t : Bool} → t ≡ poolsOk s d 14 0 → t ≡ pooled s d
   pools-decide e et = et ∙ sym (ap (λ (w : Verdict). passes w && poolsOk s d 14 0) (sym carry-verdict ∙ e))
 
 -- the pools of a direction by its rows
@@ -54,9 +54,9 @@ module _ (s : Ledger) (d : ℕ) (h : d < 2) where
   rows-pools (suc k) p b =
       rw (nested-entry (s .held) d p h (omega arith), nested-entry (s .opened) d p h (omega arith), row-at (λ q. chargedTo q (charges (carried (readerOf s d)))) p (omega arith), rows-pools k (p + 1) (omega arith))
 
-  pub books-pools : {held opened : List (List ℕ)} → held ≡ nested (s .held) → opened ≡ nested (s .opened) → {m paid : List ℕ} → m ≡ carried (readerOf s d) → paid ≡ carriedRow m
+  pub counts-pools : {held opened : List (List ℕ)} → held ≡ nested (s .held) → opened ≡ nested (s .opened) → {m paid : List ℕ} → m ≡ carried (readerOf s d) → paid ≡ carriedRow m
       → {r : Receiver} → r ≡ receiverOf s d → {t : Bool} → t ≡ rowsOk (getD held d []) (getD opened d []) paid (r .capacities) 14 0 → t ≡ poolsOk s d 14 0
-  books-pools eh eo em ep er et =
+  counts-pools eh eo em ep er et =
       et ∙ (λ i. rowsOk (getD (eh i) d []) (getD (eo i) d []) ((ep ∙ ap carriedRow em) i) (er i .capacities) 14 0) ∙ rows-pools 14 0 (omega arith)
 
 -- a direction: its receiver, its reader, its pools

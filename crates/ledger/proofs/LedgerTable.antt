@@ -11,36 +11,36 @@ use Rattle.lists.proofs.Tests.{never-both, not-true-false, and-both, and-left, 
 use Rattle.lists.proofs.Order.{lt-or-le}
 use Rattle.cause.specs.declared.Cause.{Cause}
 use Rattle.cause.specs.declared.Cause.the-variants.{InvalidState}
-use Rattle.cause.specs.declared.Verdict.the-variants.{Sound, Faulty}
-use Rattle.ledger.specs.Audit.{heldOf, openOf, ledgerOk, configured, opening, reported}
+use Rattle.cause.specs.declared.Verdict.the-variants.{Accepted, Refused}
+use Rattle.ledger.specs.Audit.{heldOf, openOf, ledgerOk, configured, newLedger, reported}
 use Rattle.ledger.specs.ValidLedger.{ValidLedger}
 use Rattle.pools.specs.declared.receiver.Receiver.{Receiver}
 use Rattle.ledger.specs.declared.ledger.Ledger.{Ledger}
 use Rattle.ledger.specs.declared.ledger.Reported.{Reported}
 use Rattle.ledger.specs.declared.ledger.Reported.the-variants as report
 use Rattle.ledger.proofs.ValidLedgerLaws.{configured-exactly, ledger-exactly}
-use Rattle.ledger.specs.Faults.{OpeningFault, ReportFault}
+use Rattle.ledger.specs.Faults.{FreshFault, ReportFault}
 use Rattle.cause.specs.Order.{Named, None}
 use Rattle.cause.proofs.VerdictLaws.{verdictOf, verdict-refused, verdict-accepted}
 
 -- ---- a configuration
 module _ (f : ℕ) (a b : Receiver) where
-  opening-row : configured f a b ≡ false → OpeningFault f a b 19 0
-  opening-row e = OpeningFault.invalid (λ v. never-both e (configured-exactly f a b .1 v))
+  opening-row : configured f a b ≡ false → FreshFault f a b 19 0
+  opening-row e = FreshFault.invalid (λ v. never-both e (configured-exactly f a b .1 v))
 
-  row-opening : (j q : ℕ) → OpeningFault f a b j q → (j ≡ 19) × (q ≡ 0) × (configured f a b ≡ false)
-  row-opening j q (OpeningFault.invalid n) = (refl, refl, not-true-false (configured f a b) (λ t. n (configured-exactly f a b .0 t)))
+  row-opening : (j q : ℕ) → FreshFault f a b j q → (j ≡ 19) × (q ≡ 0) × (configured f a b ≡ false)
+  row-opening j q (FreshFault.invalid n) = (refl, refl, not-true-false (configured f a b) (λ t. n (configured-exactly f a b .0 t)))
 
-  pub opening-refused : (k : Cause) (p : ℕ) → (opening f a b .verdict ≡ Faulty k p) ↔ Named (OpeningFault f a b) k p
-  opening-refused k p = verdict-refused (configured f a b) (OpeningFault f a b) opening-row row-opening k p
+  pub new-ledger-refused : (k : Cause) (p : ℕ) → (newLedger f a b .verdict ≡ Refused k p) ↔ Named (FreshFault f a b) k p
+  new-ledger-refused k p = verdict-refused (configured f a b) (FreshFault f a b) opening-row row-opening k p
 
-  pub opening-accepted : (opening f a b .verdict ≡ Sound) ↔ None (OpeningFault f a b)
-  opening-accepted = verdict-accepted (configured f a b) (OpeningFault f a b) opening-row row-opening
+  pub new-ledger-accepted : (newLedger f a b .verdict ≡ Accepted) ↔ None (FreshFault f a b)
+  new-ledger-accepted = verdict-accepted (configured f a b) (FreshFault f a b) opening-row row-opening
 
 -- ---- a report
 module _ (s : Ledger) (d p : ℕ) where
   abbrev counts : Reported
-  counts = report.Counted (record { 0 = heldOf s d p }) (record { 0 = openOf s d p })
+  counts = report.Accepted (record { 0 = heldOf s d p }) (record { 0 = openOf s d p })
 
   abbrev there : Bool
   there = ltb d 2 && (ltb p 14 && ledgerOk s)
@@ -61,14 +61,14 @@ module _ (s : Ledger) (d p : ℕ) where
   row-report j q (ReportFault.invalid w) = (refl, refl, not-true-false there (absent w))
 
   -- a report is refused where the verdict is faulty, and counted where it is sound
-  told-refused : (t : Bool) (k : Cause) (q : ℕ) → (pick t counts (report.Refused InvalidState 0) ≡ report.Refused k q) ↔ (verdictOf t ≡ Faulty k q)
+  told-refused : (t : Bool) (k : Cause) (q : ℕ) → (pick t counts (report.Refused InvalidState 0) ≡ report.Refused k q) ↔ (verdictOf t ≡ Refused k q)
   told-refused true k q = (λ e. let z : _≡_ {A = ℕ} 0 1 = cc in absurd (omega arith), λ e. let z : _≡_ {A = ℕ} 0 1 = cc in absurd (omega arith))
   told-refused false k q = (
-    λ e. let x : InvalidState ≡ k = cc in let y : 0 ≡ q = cc in ap (λ (i : Cause). Faulty i 0) x ∙ ap (Faulty k) y,
+    λ e. let x : InvalidState ≡ k = cc in let y : 0 ≡ q = cc in ap (λ (i : Cause). Refused i 0) x ∙ ap (Refused k) y,
     λ e. let x : InvalidState ≡ k = cc in let y : 0 ≡ q = cc in ap (λ (i : Cause). report.Refused i 0) x ∙ ap (report.Refused k) y,
   )
 
-  told-counted : (t : Bool) → (pick t counts (report.Refused InvalidState 0) ≡ counts) ↔ (verdictOf t ≡ Sound)
+  told-counted : (t : Bool) → (pick t counts (report.Refused InvalidState 0) ≡ counts) ↔ (verdictOf t ≡ Accepted)
   told-counted true = (λ e. refl, λ e. refl)
   told-counted false = (λ e. let z : _≡_ {A = ℕ} 0 1 = cc in absurd (omega arith), λ e. let z : _≡_ {A = ℕ} 0 1 = cc in absurd (omega arith))
 

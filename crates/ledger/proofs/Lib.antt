@@ -1,5 +1,5 @@
 pub mod TableSelf
-pub mod BookLaws
+pub mod CountLaws
 pub mod HeadSums
 pub mod CarriedLaws
 pub mod ValidLaws

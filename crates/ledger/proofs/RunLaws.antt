@@ -18,10 +18,10 @@ use Rattle.ledger.specs.Audit.{ledgerOk, auditing}
 use Rattle.ledger.specs.Run.{halted, whenWhole, followed, running, runOver}
 use Rattle.ledger.specs.declared.ledger.Ledger.{Ledger}
 use Rattle.ledger.specs.declared.ledger.Step.{Step}
-use Rattle.ledger.specs.declared.ledger.Answer.{Answer}
-use Rattle.ledger.specs.declared.ledger.Answer.the-variants.{Accepted, Refused}
 use Rattle.ledger.specs.declared.entries.Run.{Run}
 use Rattle.ledger.proofs.AnswerLaws.{accepted-valid, refused-same}
+use Rattle.cause.specs.declared.Verdict.{Verdict}
+use Rattle.cause.specs.declared.Verdict.the-variants.{Accepted, Refused}
 
 -- ---- one entry
 
@@ -57,8 +57,8 @@ module _ (s : Ledger) (n at : ℕ) (l : List ℕ) where
   run-none (suc k) h = none-by k (framing (drop at l)) refl h
 
   module _ (k v d u : ℕ) (e : framing (drop at l) ≡ Whole v d u) where
-    run-whole : (a : Answer) → step d u .answer ≡ a → running (suc k) s n at l ≡ followed a s n at (running k (step d u .ledger) (n + 1) (at + (u + 256)) l)
-    run-whole a q = run-by k (Whole v d u) e ∙ ap (λ (x : Answer). followed x s n at (running k (step d u .ledger) (n + 1) (at + (u + 256)) l)) q
+    run-whole : (a : Verdict) → step d u .answer ≡ a → running (suc k) s n at l ≡ followed a s n at (running k (step d u .ledger) (n + 1) (at + (u + 256)) l)
+    run-whole a q = run-by k (Whole v d u) e ∙ ap (λ (x : Verdict). followed x s n at (running k (step d u .ledger) (n + 1) (at + (u + 256)) l)) q
 
     -- the next entry is refused
     pub run-refused : (c : Cause) (p : ℕ) → step d u .answer ≡ Refused c p → running (suc k) s n at l ≡ halted s n at (Refused c p)
@@ -71,29 +71,29 @@ module _ (s : Ledger) (n at : ℕ) (l : List ℕ) where
 -- ---- the entries so far
 
 -- n of them were accepted, up to byte `at`, and what is left gives the whole
-pub record Running (first : Ledger) (most : ℕ) (l : List ℕ) (s : Ledger) (n at : ℕ) : Type 0 where
-  pub few : n ≤ most
+pub record Running (first : Ledger) (limit : ℕ) (l : List ℕ) (s : Ledger) (n at : ℕ) : Type 0 where
+  pub few : n ≤ limit
   pub inside : at ≤ length l
   pub kept : ledgerOk s ≡ true
-  pub rest : running (most - n) s n at l ≡ running most first 0 0 l
+  pub rest : running (limit - n) s n at l ≡ running limit first 0 0 l
 
-pub running-none : (s : Ledger) (most : ℕ) (l : List ℕ) → ledgerOk s ≡ true → Running s most l s 0 0
-running-none s most l h =
+pub running-none : (s : Ledger) (limit : ℕ) (l : List ℕ) → ledgerOk s ≡ true → Running s limit l s 0 0
+running-none s limit l h =
     record { few = omega arith; inside = omega arith; kept = h; rest = ap (λ (k : ℕ). running k s 0 0 l) (omega arith) }
 
-module _ (first : Ledger) (most : ℕ) (l : List ℕ) (s : Ledger) (n at : ℕ) (r : Running first most l s n at) where
+module _ (first : Ledger) (limit : ℕ) (l : List ℕ) (s : Ledger) (n at : ℕ) (r : Running first limit l s n at) where
   -- there are as many as may be
-  pub running-full : most ≤ n → halted s n at Accepted ≡ running most first 0 0 l
+  pub running-full : limit ≤ n → halted s n at Accepted ≡ running limit first 0 0 l
   running-full h =
-      let none : most - n ≡ 0 = omega arith in
+      let none : limit - n ≡ 0 = omega arith in
       sym (run-full s n at l) ∙ ap (λ (k : ℕ). running k s n at l) (sym none) ∙ r .rest
 
   -- no whole entry is left
-  pub running-ends : ((v d u : ℕ) → framing (drop at l) ≡ Whole v d u → ⊥) → halted s n at Accepted ≡ running most first 0 0 l
-  running-ends h = sym (run-none s n at l (most - n) h) ∙ r .rest
+  pub running-ends : ((v d u : ℕ) → framing (drop at l) ≡ Whole v d u → ⊥) → halted s n at Accepted ≡ running limit first 0 0 l
+  running-ends h = sym (run-none s n at l (limit - n) h) ∙ r .rest
 
-  module _ (more : n < most) (v d u : ℕ) (e : framing (drop at l) ≡ Whole v d u) where
-    one-left : suc (most - (n + 1)) ≡ most - n
+  module _ (more : n < limit) (v d u : ℕ) (e : framing (drop at l) ≡ Whole v d u) where
+    one-left : suc (limit - (n + 1)) ≡ limit - n
     one-left = omega arith
 
     -- the bytes of the next entry
@@ -104,18 +104,18 @@ module _ (first : Ledger) (most : ℕ) (l : List ℕ) (s : Ledger) (n at : ℕ) 
     entry-direction = let w = whole-entry (drop at l) v d u e .direction in omega arith
 
     module _ (t : Step) (q : t ≡ stepAt s at l d u) where
-      answered : (a : Answer) → t .answer ≡ a → stepAt s at l d u .answer ≡ a
+      answered : (a : Verdict) → t .answer ≡ a → stepAt s at l d u .answer ≡ a
       answered a h = sym (ap (λ (x : Step). x .answer) q) ∙ h
 
-      pub running-refused : (c : Cause) (p : ℕ) → t .answer ≡ Refused c p → halted s n at (Refused c p) ≡ running most first 0 0 l
+      pub running-refused : (c : Cause) (p : ℕ) → t .answer ≡ Refused c p → halted s n at (Refused c p) ≡ running limit first 0 0 l
       running-refused c p h =
-          sym (run-refused s n at l (most - (n + 1)) v d u e c p (answered (Refused c p) h)) ∙ ap (λ (k : ℕ). running k s n at l) one-left ∙ r .rest
+          sym (run-refused s n at l (limit - (n + 1)) v d u e c p (answered (Refused c p) h)) ∙ ap (λ (k : ℕ). running k s n at l) one-left ∙ r .rest
 
       -- a refusal hands back the ledger handed in
       pub running-back : (c : Cause) (p : ℕ) → t .answer ≡ Refused c p → t .ledger ≡ s
       running-back c p h = ap (λ (x : Step). x .ledger) q ∙ refused-same s d (part (at + u) 256 l) c p (answered (Refused c p) h)
 
-      pub running-more : t .answer ≡ Accepted → Running first most l (t .ledger) (n + 1) (at + (u + 256))
+      pub running-more : t .answer ≡ Accepted → Running first limit l (t .ledger) (n + 1) (at + (u + 256))
       running-more h =
           let a = answered Accepted h in
           let w = entry-within .1 in
@@ -123,8 +123,8 @@ module _ (first : Ledger) (most : ℕ) (l : List ℕ) (s : Ledger) (n at : ℕ) 
             few = omega arith;
             inside = omega arith;
             kept = ap (λ (x : Step). ledgerOk (x .ledger)) q ∙ accepted-valid s d (part (at + u) 256 l) a;
-            rest = ap (λ (x : Step). running (most - (n + 1)) (x .ledger) (n + 1) (at + (u + 256)) l) q
-                ∙ sym (run-goes-on s n at l (most - (n + 1)) v d u e a) ∙ ap (λ (k : ℕ). running k s n at l) one-left ∙ r .rest;
+            rest = ap (λ (x : Step). running (limit - (n + 1)) (x .ledger) (n + 1) (at + (u + 256)) l) q
+                ∙ sym (run-goes-on s n at l (limit - (n + 1)) v d u e a) ∙ ap (λ (k : ℕ). running k s n at l) one-left ∙ r .rest;
           }
 
 -- ---- how far a run goes
@@ -132,24 +132,24 @@ module _ (first : Ledger) (most : ℕ) (l : List ℕ) (s : Ledger) (n at : ℕ) 
 -- from n entries and byte `at` on, at most k entries of 257 to 261 bytes each
 pub record Bounded (k n at : ℕ) (l : List ℕ) (r : Run) : Type 0 where
   pub least : n ≤ r .accepted
-  pub most : r .accepted ≤ n + k
+  pub limit : r .accepted ≤ n + k
   pub far : at + 257 * (r .accepted - n) ≤ r .used
   pub near : r .used ≤ at + 261 * (r .accepted - n)
   pub inside : r .used ≤ length l
 
-bounded-stop : (k : ℕ) (s : Ledger) (n at : ℕ) (l : List ℕ) (a : Answer) → at ≤ length l → Bounded k n at l (halted s n at a)
-bounded-stop k s n at l a h = record { least = omega arith; most = omega arith; far = omega arith; near = omega arith; inside = h }
+bounded-stop : (k : ℕ) (s : Ledger) (n at : ℕ) (l : List ℕ) (a : Verdict) → at ≤ length l → Bounded k n at l (halted s n at a)
+bounded-stop k s n at l a h = record { least = omega arith; limit = omega arith; far = omega arith; near = omega arith; inside = h }
 
 bounded-more : (k n at u : ℕ) (l : List ℕ) (r : Run) → 257 ≤ u → u ≤ 261 → Bounded k (n + 1) (at + u) l r → Bounded (suc k) n at l r
 bounded-more k n at u l r low high b =
     let x = b .least in
-    let y = b .most in
+    let y = b .limit in
     let f = b .far in
     let m = b .near in
-    record { least = omega arith; most = omega arith; far = omega arith; near = omega arith; inside = b .inside }
+    record { least = omega arith; limit = omega arith; far = omega arith; near = omega arith; inside = b .inside }
 
 module _ (l : List ℕ) where
-  bounded-answer : (k : ℕ) (s : Ledger) (n at u : ℕ) (a : Answer) (r : Run) → at ≤ length l → 257 ≤ u → u ≤ 261 → Bounded k (n + 1) (at + u) l r
+  bounded-answer : (k : ℕ) (s : Ledger) (n at u : ℕ) (a : Verdict) (r : Run) → at ≤ length l → 257 ≤ u → u ≤ 261 → Bounded k (n + 1) (at + u) l r
       → Bounded (suc k) n at l (followed a s n at r)
   bounded-answer k s n at u (Refused c p) r h low high b = bounded-stop (suc k) s n at l (Refused c p) h
   bounded-answer k s n at u Accepted r h low high b = bounded-more k n at u l r low high b
@@ -173,9 +173,9 @@ module _ (l : List ℕ) where
       (bounded-frame k s n at (framing (drop at l)) refl h (λ t u fit. run-bounded k t (n + 1) (at + u) fit))
 
 -- a run over entries, from any ledger
-pub over-bounded : (s : Ledger) (most : ℕ) (l : List ℕ) → Bounded most 0 0 l (runOver s most l)
-over-bounded s most l =
-    pick-both (Bounded most 0 0 l) (ledgerOk s) (run-bounded l most s 0 0 (omega arith)) (bounded-stop most s 0 0 l (Refused InvalidState 0) (omega arith))
+pub over-bounded : (s : Ledger) (limit : ℕ) (l : List ℕ) → Bounded limit 0 0 l (runOver s limit l)
+over-bounded s limit l =
+    pick-both (Bounded limit 0 0 l) (ledgerOk s) (run-bounded l limit s 0 0 (omega arith)) (bounded-stop limit s 0 0 l (Refused InvalidState 0) (omega arith))
 
 -- ---- the entry at the front of what is left, as the code takes it
 

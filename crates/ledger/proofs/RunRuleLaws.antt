@@ -23,12 +23,12 @@ use Rattle.ledger.specs.Run.{running, runOver}
 use Rattle.ledger.specs.RunRules.{Entered, stopped, RunRule, invalid, all, refused}
 use Rattle.ledger.specs.declared.ledger.Ledger.{Ledger}
 use Rattle.ledger.specs.declared.ledger.Step.{Step}
-use Rattle.ledger.specs.declared.ledger.Answer.{Answer}
-use Rattle.ledger.specs.declared.ledger.Answer.the-variants.{Accepted, Refused}
 use Rattle.ledger.specs.declared.entries.Run.{Run}
 use Rattle.ledger.proofs.ValidLedgerLaws.{ledger-exactly}
 use Rattle.ledger.proofs.CallLaws.{accepted-front, accepted-back, accepted-more, behind-append}
 use Rattle.ledger.proofs.RunLaws.{stepAt, Running, running-none, running-full, running-ends, running-refused, running-more}
+use Rattle.cause.specs.declared.Verdict.{Verdict}
+use Rattle.cause.specs.declared.Verdict.the-variants.{Accepted, Refused}
 
 -- where no whole entry is at the front, none is framed
 none-framed : (l : List ℕ) → NoEntry l → (v d u : ℕ) → framing l ≡ Whole v d u → ⊥
@@ -47,7 +47,7 @@ next-by l (broken e) = nothing (λ v u q. absurd (let z : _≡_ {A = ℕ} 0 1 = 
 next-by l (short x y e h) = nothing (λ v u q. let same : y ≡ u = cc in subst (λ (i : ℕ). length l < i + 256) same h)
 next-by l (whole v u e h) = some v u e h
 
-module _ (s : Ledger) (most : ℕ) (l : List ℕ) where
+module _ (s : Ledger) (limit : ℕ) (l : List ℕ) where
   -- the entry at byte n, and its audit behind entries
   abbrev entry : ℕ → ℕ → ℕ → Entry
   entry n v u = entryOf (drop n l) v u
@@ -58,58 +58,58 @@ module _ (s : Ledger) (most : ℕ) (l : List ℕ) where
   here-is : (es : List Entry) (n v u : ℕ) → here es n v u ≡ stepAt (behind s es) n l (v % 2) u
   here-is es n v u = ap (λ (x : List ℕ). auditing (behind s es) (v % 2) (take 256 x)) (drop-drop u n l)
 
-  one-more : (es : List Entry) (n v u : ℕ) → Running s most l (behind s es) (length es) n → length es < most → readNumber (drop n l) ≡ Value v u → u + 256 ≤ length (drop n l)
+  one-more : (es : List Entry) (n v u : ℕ) → Running s limit l (behind s es) (length es) n → length es < limit → readNumber (drop n l) ≡ Value v u → u + 256 ≤ length (drop n l)
       → here es n v u .answer ≡ Accepted
-      → Running s most l (behind s (es ++ (entry n v u ∷ []))) (length (es ++ (entry n v u ∷ []))) (n + (u + 256))
+      → Running s limit l (behind s (es ++ (entry n v u ∷ []))) (length (es ++ (entry n v u ∷ []))) (n + (u + 256))
   one-more es n v u r few e h a =
       rw (behind-append s es (entry n v u ∷ []), length-append es (entry n v u ∷ []))
-      (running-more s most l (behind s es) (length es) n r few v (v % 2) u (frame-whole (drop n l) v u e h) (here es n v u) (here-is es n v u) a)
+      (running-more s limit l (behind s es) (length es) n r few v (v % 2) u (frame-whole (drop n l) v u e h) (here es n v u) (here-is es n v u) a)
 
   -- the run has come to where accepted entries end
-  enters-run : {es : List Entry} {n : ℕ} → Enters l es n → ledgerOk s ≡ true → length es ≤ most → AllAccepted s es → Running s most l (behind s es) (length es) n
-  enters-run none ok few a = running-none s most l ok
+  enters-run : {es : List Entry} {n : ℕ} → Enters l es n → ledgerOk s ≡ true → length es ≤ limit → AllAccepted s es → Running s limit l (behind s es) (length es) n
+  enters-run none ok few a = running-none s limit l ok
   enters-run (next {es} {n} v u f e h) ok few a =
       let one : length (es ++ (entry n v u ∷ [])) ≡ length es + 1 = length-append es (entry n v u ∷ []) in
       one-more es n v u (enters-run f ok (omega arith) (accepted-front s es (entry n v u ∷ []) a)) (omega arith) e h (accepted-back s es (entry n v u ∷ []) a .0)
 
-  entered-run : {es : List Entry} {n : ℕ} → Entered s l es n → length es ≤ most → Running s most l (behind s es) (length es) n
+  entered-run : {es : List Entry} {n : ℕ} → Entered s l es n → length es ≤ limit → Running s limit l (behind s es) (length es) n
   entered-run h few = enters-run (h .front) (ledger-exactly s .1 (h .valid)) few (h .accepted)
 
-  run-by : (t : Bool) → ledgerOk s ≡ t → runOver s most l ≡ pick t (running most s 0 0 l) (stopped s [] 0 (Refused InvalidState 0))
-  run-by t e = ap (λ (x : Bool). pick x (running most s 0 0 l) (stopped s [] 0 (Refused InvalidState 0))) e
+  run-by : (t : Bool) → ledgerOk s ≡ t → runOver s limit l ≡ pick t (running limit s 0 0 l) (stopped s [] 0 (Refused InvalidState 0))
+  run-by t e = ap (λ (x : Bool). pick x (running limit s 0 0 l) (stopped s [] 0 (Refused InvalidState 0))) e
 
-  entered-whole : {es : List Entry} {n : ℕ} → Entered s l es n → runOver s most l ≡ running most s 0 0 l
+  entered-whole : {es : List Entry} {n : ℕ} → Entered s l es n → runOver s limit l ≡ running limit s 0 0 l
   entered-whole h = run-by true (ledger-exactly s .1 (h .valid))
 
   -- what the rules say is what it gives
-  pub run-only : (r : Run) → RunRule s most l r → r ≡ runOver s most l
+  pub run-only : (r : Run) → RunRule s limit l r → r ≡ runOver s limit l
   run-only r (invalid bad) = sym (run-by false (not-true-false (ledgerOk s) (λ t. bad (ledger-exactly s .0 t))))
   run-only r (all es n h few (inl full)) =
-      running-full s most l (behind s es) (length es) n (entered-run h few) (omega arith) ∙ sym (entered-whole h)
+      running-full s limit l (behind s es) (length es) n (entered-run h few) (omega arith) ∙ sym (entered-whole h)
   run-only r (all es n h few (inr lacks)) =
-      running-ends s most l (behind s es) (length es) n (entered-run h few) (none-framed (drop n l) lacks) ∙ sym (entered-whole h)
+      running-ends s limit l (behind s es) (length es) n (entered-run h few) (none-framed (drop n l) lacks) ∙ sym (entered-whole h)
   run-only r (refused es n v u k p h few e g a) =
-      running-refused s most l (behind s es) (length es) n (entered-run h (omega arith)) few v (v % 2) u (frame-whole (drop n l) v u e g) (here es n v u) (here-is es n v u) k p a
+      running-refused s limit l (behind s es) (length es) n (entered-run h (omega arith)) few v (v % 2) u (frame-whole (drop n l) v u e g) (here es n v u) (here-is es n v u) k p a
       ∙ sym (entered-whole h)
 
-  rule-is : {r : Run} → RunRule s most l r → RunRule s most l (runOver s most l)
-  rule-is {r} h = subst (RunRule s most l) (run-only r h) h
+  rule-is : {r : Run} → RunRule s limit l r → RunRule s limit l (runOver s limit l)
+  rule-is {r} h = subst (RunRule s limit l) (run-only r h) h
 
-  by-answer : (es : List Entry) (n v u : ℕ) → Entered s l es n → length es < most → readNumber (drop n l) ≡ Value v u → u + 256 ≤ length (drop n l)
-      → (Entered s l (es ++ (entry n v u ∷ [])) (n + (u + 256)) → RunRule s most l (runOver s most l))
-      → (a : Answer) → here es n v u .answer ≡ a → RunRule s most l (runOver s most l)
+  by-answer : (es : List Entry) (n v u : ℕ) → Entered s l es n → length es < limit → readNumber (drop n l) ≡ Value v u → u + 256 ≤ length (drop n l)
+      → (Entered s l (es ++ (entry n v u ∷ [])) (n + (u + 256)) → RunRule s limit l (runOver s limit l))
+      → (a : Verdict) → here es n v u .answer ≡ a → RunRule s limit l (runOver s limit l)
   by-answer es n v u h few e g go (Refused k p) a = rule-is (refused es n v u k p h few e g a)
   by-answer es n v u h few e g go Accepted a =
       go (record { valid = h .valid; front = next v u (h .front) e g; accepted = accepted-more s es (entry n v u) (h .accepted) a })
 
-  by-next : (es : List Entry) (n : ℕ) → Entered s l es n → length es < most
-      → ((v u : ℕ) → Entered s l (es ++ (entry n v u ∷ [])) (n + (u + 256)) → RunRule s most l (runOver s most l))
-      → Next (drop n l) → RunRule s most l (runOver s most l)
+  by-next : (es : List Entry) (n : ℕ) → Entered s l es n → length es < limit
+      → ((v u : ℕ) → Entered s l (es ++ (entry n v u ∷ [])) (n + (u + 256)) → RunRule s limit l (runOver s limit l))
+      → Next (drop n l) → RunRule s limit l (runOver s limit l)
   by-next es n h few go (nothing lacks) = rule-is (all es n h (omega arith) (inr lacks))
   by-next es n h few go (some v u e g) = by-answer es n v u h few e g (go v u) (here es n v u .answer) refl
 
   -- the rules say what it gives: at most j more entries behind those that end at byte n
-  rule-from : (j : ℕ) (es : List Entry) (n : ℕ) → length es + j ≡ most → Entered s l es n → RunRule s most l (runOver s most l)
+  rule-from : (j : ℕ) (es : List Entry) (n : ℕ) → length es + j ≡ limit → Entered s l es n → RunRule s limit l (runOver s limit l)
   rule-from zero es n few h = rule-is (all es n h (omega arith) (inl (omega arith)))
   rule-from (suc j) es n few h =
       by-next es n h (omega arith)
@@ -118,9 +118,9 @@ module _ (s : Ledger) (most : ℕ) (l : List ℕ) where
       rule-from j (es ++ (entry n v u ∷ [])) (n + (u + 256)) (omega arith) g)
       (next-by (drop n l) (front-of (drop n l)))
 
-  pub run-follows : RunRule s most l (runOver s most l)
+  pub run-follows : RunRule s limit l (runOver s limit l)
   run-follows =
       ⊎-elim
-      (λ (good : ledgerOk s ≡ true). rule-from most [] 0 (omega arith) (record { valid = ledger-exactly s .0 good; front = none; accepted = tt }))
+      (λ (good : ledgerOk s ≡ true). rule-from limit [] 0 (omega arith) (record { valid = ledger-exactly s .0 good; front = none; accepted = tt }))
       (λ (bad : ledgerOk s ≡ false). rule-is (invalid (λ v. never-both bad (ledger-exactly s .1 v))))
       (cases (ledgerOk s))

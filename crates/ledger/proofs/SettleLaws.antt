@@ -12,19 +12,19 @@ use borrow.Author.Tests.{eqb-true, eq-eqb, lt-ltb}
 use Rattle.lists.proofs.Tests.{cases}
 use Rattle.cause.specs.Checks.{Check, check, Pass, firstFault, orElse}
 use Rattle.cause.specs.declared.Verdict.{Verdict}
-use Rattle.cause.specs.declared.Verdict.the-variants.{Sound, Faulty}
+use Rattle.cause.specs.declared.Verdict.the-variants.{Accepted, Refused}
 use Rattle.cause.specs.declared.Cause.the-variants.{BegunOverGranted}
-use Rattle.cause.proofs.CheckLaws.{pass-sound, first-append}
+use Rattle.cause.proofs.CheckLaws.{pass-accepted, first-append}
 use Rattle.message.specs.Charges.{charges}
 use Rattle.reader.specs.Reading.{bytesIn, stateChecks, nextReader}
 use Rattle.reader.specs.declared.carry.Carry.{Carry}
 use Rattle.pools.specs.Pools.{allMessages, allGrants, chargedTo, paidTo, grantedTo}
-use Rattle.ledger.specs.Audit.{receiverOf, readerOf, ledgerOk, opposite, begun, granted, heldChecks, roomChecks, auditChecks, heldAfter, openAfter, nextLedger, answerOf, auditing}
+use Rattle.ledger.specs.Audit.{receiverOf, readerOf, ledgerOk, opposite, begun, granted, creditChecks, capacityChecks, auditChecks, heldAfter, openAfter, nextLedger, auditing}
 use Rattle.pools.specs.Rows.{row, table, nested, flattened, entryOf, rows}
-use Rattle.ledger.specs.CountingMirror.{shortChecks, overChecks, settledHeld, settledOpen, entered, bookChecks, settling}
+use Rattle.ledger.specs.CountingMirror.{creditRowChecks, capacityRowChecks, settledHeld, settledOpen, entered, countChecks, settling}
 use Rattle.ledger.specs.declared.ledger.Ledger.{Ledger}
 use Rattle.pools.proofs.RowLaws.{row-at, row-equal}
-use Rattle.ledger.proofs.AcceptedLaws.{Accepted, accepted-by, open-carried, open-next}
+use Rattle.ledger.proofs.AcceptedLaws.{AcceptedEntry, accepted-by, open-carried, open-next}
 
 -- entry p of row e of a flat table
 pub nested-entry : (l : List ℕ) (e p : ℕ) → e < 2 → p < 14 → entryOf (nested l) e p ≡ getD l (14 * e + p) 0
@@ -41,7 +41,7 @@ table-equal f g h = ap₂ _++_ (row-equal (f 0) (g 0) (λ p k. h 0 p (omega arit
 
 -- checks that pass change no verdict
 pub skip : (a b : List Check) → Pass a → firstFault (a ++ b) ≡ firstFault b
-skip a b h = first-append a b ∙ ap (λ (v : Verdict). orElse v (firstFault b)) (pass-sound a h)
+skip a b h = first-append a b ∙ ap (λ (v : Verdict). orElse v (firstFault b)) (pass-accepted a h)
 
 module _ (s : Ledger) (d : ℕ) (c : List ℕ) (h : d < 2) where
   -- what the entry began and granted, pool by pool
@@ -58,8 +58,8 @@ module _ (s : Ledger) (d : ℕ) (c : List ℕ) (h : d < 2) where
   below = omega arith
 
   -- 15 and 16 by rows
-  short-checks : (k p : ℕ) → p + k ≤ 14 → heldChecks s d (begun s d c) k p ≡ shortChecks (getD (nested (s .held)) d []) paidRow k p
-  unfolding heldChecks shortChecks
+  short-checks : (k p : ℕ) → p + k ≤ 14 → creditChecks s d (begun s d c) k p ≡ creditRowChecks (getD (nested (s .held)) d []) paidRow k p
+  unfolding creditChecks creditRowChecks
   short-checks zero p b = refl
   short-checks (suc k) p b =
       ap₂ _∷_
@@ -67,8 +67,8 @@ module _ (s : Ledger) (d : ℕ) (c : List ℕ) (h : d < 2) where
       (short-checks k (p + 1) (omega arith))
 
   over-checks : (k p : ℕ) → p + k ≤ 14
-      → roomChecks s o (granted s d c) k p ≡ overChecks (getD (nested (s .held)) o []) (getD (nested (s .opened)) o []) givenRow (receiverOf s o .capacities) k p
-  unfolding roomChecks overChecks
+      → capacityChecks s o (granted s d c) k p ≡ capacityRowChecks (getD (nested (s .held)) o []) (getD (nested (s .opened)) o []) givenRow (receiverOf s o .capacities) k p
+  unfolding capacityChecks capacityRowChecks
   over-checks zero p b = refl
   over-checks (suc k) p b =
       ap₂ _∷_ (rw (row-at (λ q. grantedTo q (granted s d c)) p (omega arith), nested-entry (s .held) o p below (omega arith), nested-entry (s .opened) o p below (omega arith)))
@@ -77,10 +77,10 @@ module _ (s : Ledger) (d : ℕ) (c : List ℕ) (h : d < 2) where
   -- an entry that reads and whose pools exist is judged by its rows
   module _ (v : ledgerOk s ≡ true) (n : length c ≡ 256) (r : Pass (stateChecks (readerOf s d) c))
       (m : Pass (allMessages (receiverOf s d) (begun s d c))) (g : Pass (allGrants (receiverOf s o) (granted s d c))) where
-    book-verdict : firstFault (auditChecks s d c) ≡ firstFault (bookChecks s d paidRow givenRow)
+    count-verdict : firstFault (auditChecks s d c) ≡ firstFault (countChecks s d paidRow givenRow)
     unfolding auditChecks
-    book-verdict =
-        let pools = heldChecks s d (begun s d c) 14 0 ++ roomChecks s o (granted s d c) 14 0 in
+    count-verdict =
+        let pools = creditChecks s d (begun s d c) 14 0 ++ capacityChecks s o (granted s d c) 14 0 in
         let grants = allGrants (receiverOf s o) (granted s d c) in
         let messages = allMessages (receiverOf s d) (begun s d c) in
         rw (lt-ltb d 2 h, v, eq-eqb (length c) 256 n)
@@ -88,7 +88,7 @@ module _ (s : Ledger) (d : ℕ) (c : List ℕ) (h : d < 2) where
         ∙ ap₂ (λ (x y : List Check). firstFault (x ++ y)) (short-checks 14 0 (omega arith)) (over-checks 14 0 (omega arith)))
 
     -- the tables behind an accepted entry
-    module _ (a : Accepted s d c) where
+    module _ (a : AcceptedEntry s d c) where
       abbrev next : Carry
       next = nextReader (readerOf s d) c .carry
 
@@ -122,9 +122,9 @@ module _ (s : Ledger) (d : ℕ) (c : List ℕ) (h : d < 2) where
     -- so the audit settles it
     pub settles : auditing s d c ≡ settling s d (nextReader (readerOf s d) c .carry) paidRow givenRow
     unfolding auditing settling
-    settles = by (firstFault (auditChecks s d c)) refl (sym book-verdict)
+    settles = by (firstFault (auditChecks s d c)) refl (sym count-verdict)
       where
-        by : (w : Verdict) → firstFault (auditChecks s d c) ≡ w → firstFault (bookChecks s d paidRow givenRow) ≡ firstFault (auditChecks s d c)
+        by : (w : Verdict) → firstFault (auditChecks s d c) ≡ w → firstFault (countChecks s d paidRow givenRow) ≡ firstFault (auditChecks s d c)
             → auditing s d c ≡ settling s d (nextReader (readerOf s d) c .carry) paidRow givenRow
-        by Sound e q = rw (q, e) (ap (λ (l : Ledger). record { ledger = l; answer = answerOf Sound }) (tables (accepted-by s d c e)))
-        by (Faulty k p) e q = rw (q, e)
+        by Accepted e q = rw (q, e) (ap (λ (l : Ledger). record { ledger = l; answer = Accepted }) (tables (accepted-by s d c e)))
+        by (Refused k p) e q = rw (q, e)

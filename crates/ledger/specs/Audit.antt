@@ -5,24 +5,22 @@ use mathlib.Core.List.{List, [], _∷_, _++_}
 use lib.ListN.{length, getD, replicate}
 use lib.Dec.{eqb, ltb, leb}
 use Rattle.lists.specs.Pick.{pick}
-use Rattle.cause.specs.Checks.{Check, check, firstFault, whenSound, passes}
+use Rattle.cause.specs.Checks.{Check, check, firstFault, whenAccepted, passes}
 use Rattle.cause.specs.declared.Verdict.{Verdict}
-use Rattle.cause.specs.declared.Verdict.the-variants.{Sound, Faulty}
+use Rattle.cause.specs.declared.Verdict.the-variants.{Accepted, Refused}
 use Rattle.cause.specs.declared.Cause.the-variants.{InvalidState, ContainerLength, BegunOverGranted, GrantedOverCapacity}
-use Rattle.container.specs.Layout.{formatOf}
+use Rattle.container.specs.Layout.{formatOf, containerSize}
 use Rattle.container.specs.declared.grant.Grant.{Grant}
 use Rattle.message.specs.Charges.{charges}
 use Rattle.reader.specs.Reading.{carryWith, readerOk, carried, stateChecks, nextReader}
 use Rattle.reader.specs.declared.reader.Reader.{Reader}
-use Rattle.pools.specs.Pools.{receiverOk, messageChecks, chargedTo, paidTo, grantedTo}
+use Rattle.pools.specs.Pools.{receiverOk, messageChecks, chargedTo, paidTo, grantedTo, poolCount}
 use Rattle.pools.specs.Rows.{table}
 use Rattle.pools.specs.declared.receiver.Receiver.{Receiver}
 use Rattle.ledger.specs.Entries.{startsIn, endsIn, grantsOf, checksThen}
 use Rattle.ledger.specs.declared.ledger.Ledger.{Ledger}
-use Rattle.ledger.specs.declared.ledger.Answer.{Answer}
-use Rattle.ledger.specs.declared.ledger.Answer.the-variants as answer
 use Rattle.ledger.specs.declared.ledger.Step.{Step}
-use Rattle.ledger.specs.declared.ledger.Opened.{Opened}
+use Rattle.ledger.specs.declared.ledger.Created.{Created}
 use Rattle.ledger.specs.declared.ledger.Reported.{Reported}
 use Rattle.ledger.specs.declared.ledger.Reported.the-variants as report
 
@@ -35,10 +33,10 @@ readerOf s d = record { format = s .format; carry = pick (eqb d 0) (s .carry0) (
 
 -- credits held and messages open, of direction d and pool p
 abbrev pub heldOf : Ledger → ℕ → ℕ → ℕ
-heldOf s d p = getD (s .held) (14 * d + p) 0
+heldOf s d p = getD (s .held) (poolCount * d + p) 0
 
 abbrev pub openOf : Ledger → ℕ → ℕ → ℕ
-openOf s d p = getD (s .opened) (14 * d + p) 0
+openOf s d p = getD (s .opened) (poolCount * d + p) 0
 
 -- pool p of direction d: open messages follow from the carry, and held plus open is at most capacity
 abbrev pub poolOk : Ledger → ℕ → ℕ → Bool
@@ -54,7 +52,7 @@ poolsOk s d (suc k) p = poolOk s d p && poolsOk s d k (p + 1)
 abbrev pub directionOk : Ledger → ℕ → Bool
 directionOk s d =
     receiverOk (receiverOf s d)
-    && (readerOk (readerOf s d) && (passes (firstFault (messageChecks (receiverOf s d) (carried (readerOf s d)))) && poolsOk s d 14 0))
+    && (readerOk (readerOf s d) && (passes (firstFault (messageChecks (receiverOf s d) (carried (readerOf s d)))) && poolsOk s d poolCount 0))
 
 abbrev pub ledgerOk : Ledger → Bool
 ledgerOk s = directionOk s 0 && directionOk s 1
@@ -74,24 +72,24 @@ unfoldable pub granted : Ledger → ℕ → List ℕ → List Grant
 granted s d c = grantsOf (formatOf (s .format)) c (begun s d c)
 
 -- 15: begun over granted, k pools from p on
-unfoldable pub heldChecks : Ledger → ℕ → List (List ℕ) → ℕ → ℕ → List Check
-heldChecks s d ms zero p = []
-heldChecks s d ms (suc k) p = check (leb (paidTo p ms) (heldOf s d p)) BegunOverGranted p ∷ heldChecks s d ms k (p + 1)
+unfoldable pub creditChecks : Ledger → ℕ → List (List ℕ) → ℕ → ℕ → List Check
+creditChecks s d ms zero p = []
+creditChecks s d ms (suc k) p = check (leb (paidTo p ms) (heldOf s d p)) BegunOverGranted p ∷ creditChecks s d ms k (p + 1)
 
 -- 16: granted over capacity + finished, k pools from p on
-unfoldable pub roomChecks : Ledger → ℕ → List Grant → ℕ → ℕ → List Check
-roomChecks s d ns zero p = []
-roomChecks s d ns (suc k) p =
+unfoldable pub capacityChecks : Ledger → ℕ → List Grant → ℕ → ℕ → List Check
+capacityChecks s d ns zero p = []
+capacityChecks s d ns (suc k) p =
     check (leb (heldOf s d p + (grantedTo p ns + openOf s d p)) (getD (receiverOf s d .capacities) p 0)) GrantedOverCapacity p
-    ∷ roomChecks s d ns k (p + 1)
+    ∷ capacityChecks s d ns k (p + 1)
 
 -- 19, 1; the reader's 3 to 13; 14 by started messages, then by the header's grant and the CrdtGrants; then 15, then 16
 unfoldable pub auditChecks : Ledger → ℕ → List ℕ → List Check
 auditChecks s d c =
     check (ltb d 2 && ledgerOk s) InvalidState 0
-    ∷ check (eqb (length c) 256) ContainerLength 0
+    ∷ check (eqb (length c) containerSize) ContainerLength 0
     ∷ checksThen (receiverOf s d) (receiverOf s (opposite d)) (stateChecks (readerOf s d) c) (begun s d c) (granted s d c)
-    (heldChecks s d (begun s d c) 14 0 ++ roomChecks s (opposite d) (granted s d c) 14 0)
+    (creditChecks s d (begun s d c) poolCount 0 ++ capacityChecks s (opposite d) (granted s d c) poolCount 0)
 
 -- the numbers of direction e and pool p behind an accepted entry of direction d
 abbrev pub heldAfter : Ledger → ℕ → List ℕ → ℕ → ℕ → ℕ
@@ -111,20 +109,16 @@ nextLedger s d c = record {
   opened = table (openAfter s d c);
 }
 
-abbrev pub answerOf : Verdict → Answer
-answerOf Sound = answer.Accepted
-answerOf (Faulty c p) = answer.Refused c p
-
 -- the audit of an entry: answer and next ledger
 unfoldable pub auditing : Ledger → ℕ → List ℕ → Step
 auditing s d c = record {
-  ledger = whenSound (firstFault (auditChecks s d c)) (nextLedger s d c) s;
-  answer = answerOf (firstFault (auditChecks s d c));
+  ledger = whenAccepted (firstFault (auditChecks s d c)) (nextLedger s d c) s;
+  answer = firstFault (auditChecks s d c);
 }
 
 -- the step of an entry that is accepted and changes nothing
 abbrev pub unchanged : Ledger → Step
-unchanged s = record { ledger = s; answer = answer.Accepted }
+unchanged s = record { ledger = s; answer = Accepted }
 
 -- a ledger's start: nothing carried, held or open
 abbrev pub freshLedger : ℕ → Receiver → Receiver → Ledger
@@ -134,8 +128,8 @@ freshLedger f a b = record {
   receiver1 = b;
   carry0 = carryWith [];
   carry1 = carryWith [];
-  held = replicate 28 0;
-  opened = replicate 28 0;
+  held = replicate (2 * poolCount) 0;
+  opened = replicate (2 * poolCount) 0;
 }
 
 -- a format and receivers are valid
@@ -143,11 +137,11 @@ abbrev pub configured : ℕ → Receiver → Receiver → Bool
 configured f a b = ltb f 2 && (receiverOk a && receiverOk b)
 
 -- a new ledger; a configuration that is none is 19, beside a ledger that every step refuses
-abbrev pub opening : ℕ → Receiver → Receiver → Opened
-opening f a b = record { ledger = freshLedger f a b; verdict = pick (configured f a b) Sound (Faulty InvalidState 0) }
+abbrev pub newLedger : ℕ → Receiver → Receiver → Created
+newLedger f a b = record { ledger = freshLedger f a b; verdict = pick (configured f a b) Accepted (Refused InvalidState 0) }
 
 -- the report of direction d and pool p: granted minus begun, and begun minus finished; a direction or pool that is none, and a ledger that
 -- is not valid, are 19
 abbrev pub reported : Ledger → ℕ → ℕ → Reported
 reported s d p =
-    pick (ltb d 2 && (ltb p 14 && ledgerOk s)) (report.Counted (record { 0 = heldOf s d p }) (record { 0 = openOf s d p })) (report.Refused InvalidState 0)
+    pick (ltb d 2 && (ltb p poolCount && ledgerOk s)) (report.Accepted (record { 0 = heldOf s d p }) (record { 0 = openOf s d p })) (report.Refused InvalidState 0)

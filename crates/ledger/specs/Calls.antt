@@ -7,7 +7,7 @@ use Rattle.record.specs.Number.{readNumber}
 use Rattle.record.specs.declared.number.Number.the-variants.{Value}
 use Rattle.ledger.specs.Audit.{auditing}
 use Rattle.ledger.specs.declared.ledger.Ledger.{Ledger}
-use Rattle.ledger.specs.declared.ledger.Answer.the-variants.{Accepted}
+use Rattle.cause.specs.declared.Verdict.the-variants.{Accepted}
 
 -- what an entry hands to the audit
 pub record Entry : Type 0 where

@@ -5,7 +5,7 @@ use mathlib.Core.List.{List, [], _∷_, _++_}
 use lib.ListN.{getD}
 use lib.Dec.{eqb, leb}
 use Rattle.lists.specs.Pick.{pick}
-use Rattle.cause.specs.Checks.{Check, check, firstFault, whenSound, passes}
+use Rattle.cause.specs.Checks.{Check, check, firstFault, whenAccepted, passes}
 use Rattle.cause.specs.declared.Cause.the-variants.{BegunOverGranted, GrantedOverCapacity}
 use Rattle.container.specs.Layout.{formatOf}
 use Rattle.message.specs.Charges.{charges}
@@ -13,21 +13,21 @@ use Rattle.reader.specs.Reading.{bytesIn, carried}
 use Rattle.reader.specs.declared.carry.Carry.{Carry}
 use Rattle.pools.specs.Pools.{messageChecks, chargedTo}
 use Rattle.pools.specs.Rows.{row, nested, flattened, entryOf, rows}
-use Rattle.ledger.specs.Audit.{receiverOf, readerOf, poolsOk, answerOf}
+use Rattle.ledger.specs.Audit.{receiverOf, readerOf, poolsOk}
 use Rattle.ledger.specs.Idle.{idleFrom}
 use Rattle.ledger.specs.declared.ledger.Ledger.{Ledger}
 use Rattle.ledger.specs.declared.ledger.Step.{Step}
 
 -- 15 and 16 by rows of counts, k pools from p on
-unfoldable pub shortChecks : List ℕ → List ℕ → ℕ → ℕ → List Check
-shortChecks held begun zero p = []
-shortChecks held begun (suc k) p = check (leb (getD begun p 0) (getD held p 0)) BegunOverGranted p ∷ shortChecks held begun k (p + 1)
+unfoldable pub creditRowChecks : List ℕ → List ℕ → ℕ → ℕ → List Check
+creditRowChecks held begun zero p = []
+creditRowChecks held begun (suc k) p = check (leb (getD begun p 0) (getD held p 0)) BegunOverGranted p ∷ creditRowChecks held begun k (p + 1)
 
-unfoldable pub overChecks : List ℕ → List ℕ → List ℕ → List ℕ → ℕ → ℕ → List Check
-overChecks held opened granted capacities zero p = []
-overChecks held opened granted capacities (suc k) p =
+unfoldable pub capacityRowChecks : List ℕ → List ℕ → List ℕ → List ℕ → ℕ → ℕ → List Check
+capacityRowChecks held opened granted capacities zero p = []
+capacityRowChecks held opened granted capacities (suc k) p =
     check (leb (getD held p 0 + (getD granted p 0 + getD opened p 0)) (getD capacities p 0)) GrantedOverCapacity p
-    ∷ overChecks held opened granted capacities k (p + 1)
+    ∷ capacityRowChecks held opened granted capacities k (p + 1)
 
 -- k pools from p on: open messages are what the carry pays, and held plus open is at most capacity
 unfoldable pub rowsOk : List ℕ → List ℕ → List ℕ → List ℕ → ℕ → ℕ → Bool
@@ -49,8 +49,8 @@ abbrev pub pooled : Ledger → ℕ → Bool
 pooled s d = passes (firstFault (messageChecks (receiverOf s d) (carried (readerOf s d)))) && poolsOk s d 14 0
 
 -- an idle entry: nothing is carried in its direction, and it has nothing but zeros outside the link header
-abbrev pub resting : Ledger → ℕ → List ℕ → Bool
-resting s d c = eqb (readerOf s d .carry .len) 0 && idleFrom (formatOf (s .format) .link) c 0
+abbrev pub idleEntry : Ledger → ℕ → List ℕ → Bool
+idleEntry s d c = eqb (readerOf s d .carry .len) 0 && idleFrom (formatOf (s .format) .link) c 0
 
 -- the ledger behind an accepted entry of direction d, by the next carry and the tables of counts
 abbrev pub entered : Ledger → ℕ → Carry → List ℕ → List ℕ → Ledger
@@ -65,16 +65,16 @@ entered s d next held opened = record {
 }
 
 -- 15 in direction d, then 16 in the opposite one, by what was begun and granted
-abbrev pub bookChecks : Ledger → ℕ → List ℕ → List ℕ → List Check
-bookChecks s d begun granted =
-    shortChecks (getD (nested (s .held)) d []) begun 14 0
-    ++ overChecks (getD (nested (s .held)) (1 - d) []) (getD (nested (s .opened)) (1 - d) []) granted (receiverOf s (1 - d) .capacities) 14 0
+abbrev pub countChecks : Ledger → ℕ → List ℕ → List ℕ → List Check
+countChecks s d begun granted =
+    creditRowChecks (getD (nested (s .held)) d []) begun 14 0
+    ++ capacityRowChecks (getD (nested (s .held)) (1 - d) []) (getD (nested (s .opened)) (1 - d) []) granted (receiverOf s (1 - d) .capacities) 14 0
 
 -- the step of an entry that reads and whose pools exist, by the next carry and what was begun and granted
 unfoldable pub settling : Ledger → ℕ → Carry → List ℕ → List ℕ → Step
 settling s d next begun granted = record {
-  ledger = whenSound (firstFault (bookChecks s d begun granted))
+  ledger = whenAccepted (firstFault (countChecks s d begun granted))
       (entered s d next (flattened (rows (settledHeld d (nested (s .held)) begun granted)))
       (flattened (rows (settledOpen d (nested (s .opened)) (row (λ p. chargedTo p (charges (bytesIn next))) 14 0))))) s;
-  answer = answerOf (firstFault (bookChecks s d begun granted));
+  answer = firstFault (countChecks s d begun granted);
 }

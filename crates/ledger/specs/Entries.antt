@@ -2,7 +2,7 @@
 use Prim.Native.Nat.{ℕ}
 use mathlib.Core.List.{List, _∷_, _++_}
 use Rattle.cause.specs.Checks.{Check}
-use Rattle.container.specs.Layout.{Format, formatOf}
+use Rattle.container.specs.Layout.{Format, formatOf, granules}
 use Rattle.container.specs.Grants.{headerGrant}
 use Rattle.container.specs.declared.grant.Grant.{Grant}
 use Rattle.placement.specs.Cells.{cells, endings, startings}
@@ -13,10 +13,10 @@ use Rattle.pools.specs.declared.receiver.Receiver.{Receiver}
 
 -- the messages that start in a container, and those that end in it, as a reader in this state finds them
 abbrev pub startsIn : Reader → List ℕ → List (List ℕ)
-startsIn s c = startings (cells (formatOf (s .format)) c 12 0 (carried s))
+startsIn s c = startings (cells (formatOf (s .format)) c granules 0 (carried s))
 
 abbrev pub endsIn : Reader → List ℕ → List (List ℕ)
-endsIn s c = endings (formatOf (s .format)) 0 (cells (formatOf (s .format)) c 12 0 (carried s)) (carried s)
+endsIn s c = endings (formatOf (s .format)) 0 (cells (formatOf (s .format)) c granules 0 (carried s)) (carried s)
 
 -- the grants of a container in which these messages start: its header's, then those of its CrdtGrants
 abbrev pub grantsOf : Format → List ℕ → List (List ℕ) → List Grant

@@ -39,8 +39,8 @@ pub data AuditFault (s : Ledger) (d : ℕ) (c : List ℕ) : ℕ → ℕ → ℕ 
       → AuditFault s d c 16 p p
 
 -- a new ledger: 19 | format or configuration not valid | 0
-pub data OpeningFault (f : ℕ) (a b : Receiver) : ℕ → ℕ → Type 0 where
-  invalid : (ValidConfiguration f a b → ⊥) → OpeningFault f a b 19 0
+pub data FreshFault (f : ℕ) (a b : Receiver) : ℕ → ℕ → Type 0 where
+  invalid : (ValidConfiguration f a b → ⊥) → FreshFault f a b 19 0
 
 -- the report of a direction and pool: 19 | direction or state not valid | 0
 pub data ReportFault (s : Ledger) (d p : ℕ) : ℕ → ℕ → Type 0 where

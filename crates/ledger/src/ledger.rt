@@ -5,32 +5,36 @@ ghost use Prim.Native.Nat.{_≤_, _<_};
 ghost use lib.ListN.{length};
 ghost use lib.Dec.{ltb};
 ghost use Rattle.cause.specs.Checks.{firstFault};
-ghost use Rattle.cause.specs.declared.Verdict.the-variants.{Sound};
+ghost use Rattle.cause.specs.declared.Verdict.the-variants.{Accepted};
 ghost use Rattle.container.specs.Layout.{formatOf, msgStart};
 ghost use Rattle.container.specs.Grants.{headerGrant};
 ghost use Rattle.reader.specs.Reading.{judgeChecks, nextReader, carried};
 ghost use Rattle.pools.specs.Rows.{flattened};
-ghost use Rattle.ledger.specs.Audit.{receiverOf, readerOf, directionOk, ledgerOk, configured, opening, unchanged, auditing, reported};
-ghost use Rattle.ledger.specs.CountingMirror.{pooled, resting, settling, entered};
-use crate::books::judge_begun;
-use crate::books::judge_granted;
-use crate::books::keeps_books;
-use crate::books::settle_held;
-use crate::books::settle_opened;
+ghost use Rattle.ledger.specs.Audit.{receiverOf, readerOf, directionOk, ledgerOk, configured, newLedger, unchanged, auditing, reported};
+ghost use Rattle.ledger.specs.CountingMirror.{pooled, idleEntry, settling, entered};
+use crate::counts::judge_begun;
+use crate::counts::judge_granted;
+use crate::counts::keeps_counts;
+use crate::counts::settle_held;
+use crate::counts::settle_opened;
 use crate::idle::is_idle;
 use cause::Cause;
 use cause::Verdict;
+use container::CONTAINER;
 use container::Grant;
 use pools::Credits;
+use pools::POOLS;
+use pools::ROW;
 use pools::Receiver;
 use pools::Slots;
+use pools::TABLE;
 use pools::count_carry;
 use pools::flatten;
 use pools::nest;
 use pools::tally_begun;
 use pools::tally_granted;
 use reader::Carry;
-use reader::Judgement;
+use reader::JudgeAnswer;
 use reader::Reader;
 use slices::byte_at;
 
@@ -42,31 +46,25 @@ pub struct Ledger {
     pub receiver1: Receiver,
     pub carry0: Carry,
     pub carry1: Carry,
-    pub held: [u32; 28],
-    pub opened: [u32; 28],
-}
-
-// The answer of an audit.
-pub enum Answer {
-    Accepted,
-    Refused { cause: Cause, place: u64 },
+    pub held: [u32; TABLE],
+    pub opened: [u32; TABLE],
 }
 
 // The next ledger and the answer.
 pub struct Step {
     pub ledger: Ledger,
-    pub answer: Answer,
+    pub answer: Verdict,
 }
 
 // A new ledger, and whether its format and receivers are valid.
-pub struct Opened {
+pub struct Created {
     pub ledger: Ledger,
     pub verdict: Verdict,
 }
 
 // The answer of a report: the credits held and the slots of open messages, of one direction and pool.
 pub enum Reported {
-    Counted { held: Credits, opened: Slots },
+    Accepted { held: Credits, opened: Slots },
     Refused { cause: Cause, place: u64 },
 }
 
@@ -95,8 +93,8 @@ fn is_configured(format: u32, receiver0: Receiver, receiver1: Receiver) -> bool
 
 impl Ledger {
     // A ledger with nothing carried, held or open.
-    pub fn fresh(format: u32, receiver0: Receiver, receiver1: Receiver) -> Opened
-        ensures { λ r. ⌜ r ≡ opening format receiver0 receiver1 ⌝ }
+    pub fn fresh(format: u32, receiver0: Receiver, receiver1: Receiver) -> Created
+        ensures { λ r. ⌜ r ≡ newLedger format receiver0 receiver1 ⌝ }
     {
         let none = Carry::none();
         let ledger = Ledger {
@@ -105,18 +103,18 @@ impl Ledger {
             receiver1: receiver1,
             carry0: none,
             carry1: none,
-            held: [0u32; 28],
-            opened: [0u32; 28],
+            held: [0u32; TABLE],
+            opened: [0u32; TABLE],
         };
         if is_configured(format, receiver0, receiver1) {
-            return Opened {
+            return Created {
                 ledger: ledger,
-                verdict: Verdict::Sound,
+                verdict: Verdict::Accepted,
             };
         }
-        Opened {
+        Created {
             ledger: ledger,
-            verdict: Verdict::Faulty(Cause::InvalidState, 0),
+            verdict: Verdict::Refused(Cause::InvalidState, 0),
         }
     }
 
@@ -154,16 +152,16 @@ impl Ledger {
         requires { ⌜ now carry ≡ carried (readerOf self direction) ⌝ }
         ensures { λ r. ⌜ r ≡ pooled self direction ⌝ }
     {
-        let first = byte_at(carry, 0);
-        let second = byte_at(carry, 1);
-        let verdict = receiver.judge_payment(first % 16, first, second);
-        if let Verdict::Faulty(_, _) = verdict {
+        let byte0 = byte_at(carry, 0);
+        let byte1 = byte_at(carry, 1);
+        let verdict = receiver.judge_payment(byte0 % 16, byte0, byte1);
+        if let Verdict::Refused(_, _) = verdict {
             return false;
         }
         let held = self.held;
         let opened = self.opened;
         let capacities = receiver.capacities;
-        keeps_books(
+        keeps_counts(
             nest(held),
             nest(opened),
             direction,
@@ -202,9 +200,9 @@ impl Ledger {
 
     // Whether an entry is idle: nothing is carried in its direction, and it has nothing but zeros outside the link header. A valid ledger
     // accepts it and stays as it is.
-    pub(crate) fn rests(self, direction: usize, container: &[u8]) -> bool
+    pub(crate) fn is_entry_idle(self, direction: usize, container: &[u8]) -> bool
         requires { ⌜ (direction < 2) × (ledgerOk self ≡ true) × (length (now container) ≡ 256) ⌝ }
-        ensures { λ r. ⌜ r ≡ resting self direction (now (container .entry)) ⌝ }
+        ensures { λ r. ⌜ r ≡ idleEntry self direction (now (container .entry)) ⌝ }
         ensures { λ r. ⌜ (r ≡ true → unchanged self ≡ auditing self direction (now (container .entry))) ⌝ }
     {
         if direction == 0 {
@@ -221,20 +219,23 @@ impl Ledger {
 
     // A refused entry.
     fn refuse(self, cause: Cause, place: u64) -> Step
-        ensures { λ r. ⌜ r ≡ record { ledger = self; answer = Answer.Refused cause place } ⌝ }
+        ensures { λ r. ⌜ r ≡ record { ledger = self; answer = Verdict.Refused cause place } ⌝ }
     {
         Step {
             ledger: self,
-            answer: Answer::Refused {
-                cause: cause,
-                place: place,
-            },
+            answer: Verdict::Refused(cause, place),
         }
     }
 
-    // The ledger with other carries and tables.
-    fn renew(self, carry0: Carry, carry1: Carry, held: [u32; 28], opened: [u32; 28]) -> Ledger
-        ensures { λ r. ⌜ r ≡ record { format = self .format; receiver0 = self .receiver0; receiver1 = self .receiver1; carry0 = carry0; carry1 = carry1; held = held; opened = opened } ⌝ }
+    // The ledger with other carries and counts.
+    fn renew(
+        self,
+        carry0: Carry,
+        carry1: Carry,
+        held: [[u32; ROW]; 2],
+        opened: [[u32; ROW]; 2],
+    ) -> Ledger
+        ensures { λ r. ⌜ r ≡ record { format = self .format; receiver0 = self .receiver0; receiver1 = self .receiver1; carry0 = carry0; carry1 = carry1; held = flattened held; opened = flattened opened } ⌝ }
     {
         let receiver0 = self.receiver0;
         let receiver1 = self.receiver1;
@@ -244,8 +245,8 @@ impl Ledger {
             receiver1: receiver1,
             carry0: carry0,
             carry1: carry1,
-            held: held,
-            opened: opened,
+            held: flatten(held),
+            opened: flatten(opened),
         }
     }
 
@@ -254,30 +255,28 @@ impl Ledger {
         self,
         direction: usize,
         next: Carry,
-        held: [[u32; 14]; 2],
-        opened: [[u32; 14]; 2],
+        held: [[u32; ROW]; 2],
+        opened: [[u32; ROW]; 2],
     ) -> Ledger
         ensures { λ r. ⌜ r ≡ entered self direction next (flattened held) (flattened opened) ⌝ }
     {
-        let credits = flatten(held);
-        let messages = flatten(opened);
         if direction == 0 {
             let carry1 = self.carry1;
-            return self.renew(next, carry1, credits, messages);
+            return self.renew(next, carry1, held, opened);
         }
         let carry0 = self.carry0;
-        self.renew(carry0, next, credits, messages)
+        self.renew(carry0, next, held, opened)
     }
 
     // 15 and 16 by what the entry began and granted, and the ledger behind it.
-    fn settle(self, direction: usize, next: Carry, begun: [u32; 14], granted: [u32; 14]) -> Step
+    fn settle(self, direction: usize, next: Carry, begun: [u32; ROW], granted: [u32; ROW]) -> Step
         requires { ⌜ (direction < 2) × (next .len ≤ 100) ⌝ }
         ensures { λ r. ⌜ r ≡ settling self direction next begun granted ⌝ }
     {
         let credits = self.held;
         let held = nest(credits);
         let short = judge_begun(held, direction, begun);
-        if let Verdict::Faulty(cause, place) = short {
+        if let Verdict::Refused(cause, place) = short {
             return self.refuse(cause, place);
         }
         let messages = self.opened;
@@ -286,7 +285,7 @@ impl Ledger {
         let receiver = self.choose_receiver(other);
         let capacities = receiver.capacities;
         let over = judge_granted(held, opened, other, granted, capacities);
-        if let Verdict::Faulty(cause, place) = over {
+        if let Verdict::Refused(cause, place) = over {
             return self.refuse(cause, place);
         }
         let bytes = next.bytes;
@@ -296,7 +295,7 @@ impl Ledger {
         let opened_after = settle_opened(opened, direction, paid);
         Step {
             ledger: self.enter(direction, next, held_after, opened_after),
-            answer: Answer::Accepted,
+            answer: Verdict::Accepted,
         }
     }
 
@@ -307,27 +306,27 @@ impl Ledger {
         container: &[u8],
         next: Carry,
         grant: Grant,
-        starts: u16,
+        msgstart: u16,
     ) -> Step
         requires { ⌜ (direction < 2) × (ledgerOk self ≡ true) × (length (now container) ≡ 256) ⌝ }
-        requires { ⌜ firstFault (judgeChecks (readerOf self direction) (now container)) ≡ Sound ⌝ }
+        requires { ⌜ firstFault (judgeChecks (readerOf self direction) (now container)) ≡ Accepted ⌝ }
         requires { ⌜ next ≡ nextReader (readerOf self direction) (now container) .carry ⌝ }
-        requires { ⌜ (grant ≡ headerGrant (formatOf (self .format)) (now container)) × (starts ≡ msgStart (formatOf (self .format)) (now container)) ⌝ }
+        requires { ⌜ (grant ≡ headerGrant (formatOf (self .format)) (now container)) × (msgstart ≡ msgStart (formatOf (self .format)) (now container)) ⌝ }
         ensures { λ r. ⌜ r ≡ auditing self direction (now (container .entry)) ⌝ }
     {
-        let begun = tally_begun(self.choose_receiver(direction), starts, container);
+        let begun = tally_begun(self.choose_receiver(direction), msgstart, container);
         let first = begun.verdict;
-        if let Verdict::Faulty(cause, place) = first {
+        if let Verdict::Refused(cause, place) = first {
             return self.refuse(cause, place);
         }
         let granted = tally_granted(
             self.choose_receiver(1 - direction),
             grant,
-            starts,
+            msgstart,
             container,
         );
         let second = granted.verdict;
-        if let Verdict::Faulty(cause, place) = second {
+        if let Verdict::Refused(cause, place) = second {
             return self.refuse(cause, place);
         }
         let paid = begun.counts;
@@ -341,12 +340,12 @@ impl Ledger {
         ensures { λ r. ⌜ r ≡ auditing self direction (now (container .entry)) ⌝ }
     {
         let judged = self.choose_reader(direction).judge(container);
-        let judgement = judged.judgement;
-        match judgement {
-            Judgement::Refused { cause, place } => self.refuse(cause, place),
-            Judgement::Accepted { grant, starts } => {
+        let answer = judged.answer;
+        match answer {
+            JudgeAnswer::Refused { cause, place } => self.refuse(cause, place),
+            JudgeAnswer::Accepted { grant, msgstart } => {
                 let next = judged.reader.carry;
-                self.audit_read(direction, container, next, grant, starts)
+                self.audit_read(direction, container, next, grant, msgstart)
             }
         }
     }
@@ -356,10 +355,10 @@ impl Ledger {
         requires { ⌜ (direction < 2) × (ledgerOk self ≡ true) × (length (now container) ≡ 256) ⌝ }
         ensures { λ r. ⌜ r ≡ auditing self direction (now (container .entry)) ⌝ }
     {
-        if self.rests(direction, container) {
+        if self.is_entry_idle(direction, container) {
             return Step {
                 ledger: self,
-                answer: Answer::Accepted,
+                answer: Verdict::Accepted,
             };
         }
         self.audit_contents(direction, container)
@@ -382,7 +381,7 @@ impl Ledger {
         if !self.admits(direction) {
             return self.refuse(Cause::InvalidState, 0);
         }
-        if container.len() != 256 {
+        if container.len() != CONTAINER {
             return self.refuse(Cause::ContainerLength, 0);
         }
         self.audit_valid(direction as usize, container)
@@ -395,12 +394,12 @@ impl Ledger {
         if 2 <= direction {
             return refuse_report();
         }
-        if 14 <= pool {
+        if POOLS <= pool {
             return refuse_report();
         }
         if self.is_valid() {
-            let i = (14 * direction + pool) as usize;
-            return Reported::Counted {
+            let i = (POOLS * direction + pool) as usize;
+            return Reported::Accepted {
                 held: Credits(self.held[i]),
                 opened: Slots(self.opened[i]),
             };

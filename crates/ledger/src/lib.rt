@@ -1,12 +1,11 @@
 // The audit of both directions of a link: receivers, pools and the ledger (document 01, "Pools and the audit").
-mod books;
+mod counts;
 mod entries;
 mod idle;
 mod ledger;
 
 pub use entries::Run;
-pub use ledger::Answer;
+pub use ledger::Created;
 pub use ledger::Ledger;
-pub use ledger::Opened;
 pub use ledger::Reported;
 pub use ledger::Step;

@@ -10,8 +10,8 @@ use lib.Dec.{leb}
 use borrow.Author.Tests.{leb-true, leb-false}
 use Rattle.lists.specs.Parts.{joinAll}
 use Rattle.lists.proofs.Tests.{cases}
-use Rattle.log.specs.Log.{Setting, wrong, set-up, settingOf, Next, over, onward}
-use Rattle.log.specs.Stream.{most, ready, stoppedAt, stepped, readFrom, started, startBy, beginning, Running, consuming, verdictFrom}
+use Rattle.log.specs.Log.{ConfigurationAnswer, misconfigures, configures, configurationAt, Next, over, onward}
+use Rattle.log.specs.Stream.{maxEntries, ready, stoppedAt, stepped, readFrom, started, startBy, beginning, Running, consuming, verdictFrom}
 use Rattle.log.specs.Cutting.{told, run}
 use Rattle.ledger.specs.declared.ledger.Ledger.{Ledger}
 use Rattle.log.specs.declared.log.LogVerdict.{LogVerdict}
@@ -28,12 +28,12 @@ use Rattle.log.proofs.CutTheorem.{read-kept, State, bad, new, runs, sta
 -- reading from the state and the place where reading has stopped stops there again
 abbrev Again : Bool → List ℕ → Consumed → Type 0
 Again ended b r =
-    readFrom (most - r .reader .entries) ended (drop (r .used) b) 0 (r .reader) ≡ stoppedAt 0 (r .reader) (r .outcome)
+    readFrom (maxEntries - r .reader .entries) ended (drop (r .used) b) 0 (r .reader) ≡ stoppedAt 0 (r .reader) (r .outcome)
 
 again-stop : (k : ℕ) (ended : Bool) (b : List ℕ) (at : ℕ) (s : LogReader) → ready (s .entries) (drop at b) ended ≡ false → Again ended b (readFrom k ended b at s)
 again-stop k ended b at s stop =
     subst (Again ended b) (sym (read-stop k ended b at s stop))
-    (read-stop (most - s .entries) ended (drop at b) 0 s stop)
+    (read-stop (maxEntries - s .entries) ended (drop at b) 0 s stop)
 
 again-next : (k : ℕ) (ended : Bool) (b : List ℕ) (at : ℕ) (s : LogReader) → ready (s .entries) (drop at b) ended ≡ true
     → (n : Next) → nextAt s (drop at b) ≡ n
@@ -41,13 +41,13 @@ again-next : (k : ℕ) (ended : Bool) (b : List ℕ) (at : ℕ) (s : LogReader) 
     → Again ended b (readFrom (suc k) ended b at s)
 again-next k ended b at s can (over v) e go =
     let few = when-ready (s .entries) (drop at b) ended can .few in
-    let one : most - s .entries ≡ suc (most - s .entries - 1) = omega arith in
+    let one : maxEntries - s .entries ≡ suc (maxEntries - s .entries - 1) = omega arith in
     subst (Again ended b) (sym (read-over k ended b at s v can e))
-    (ap (λ (j : ℕ). readFrom j ended (drop at b) 0 s) one ∙ read-over (most - s .entries - 1) ended (drop at b) 0 s v can e)
+    (ap (λ (j : ℕ). readFrom j ended (drop at b) 0 s) one ∙ read-over (maxEntries - s .entries - 1) ended (drop at b) 0 s v can e)
 again-next k ended b at s can (onward next u) e go =
     subst (Again ended b) (sym (read-on k ended b at s next u can e)) (go next u)
 
-read-again : (k : ℕ) (ended : Bool) (b : List ℕ) (at : ℕ) (s : LogReader) → s .entries + k ≡ most → Again ended b (readFrom k ended b at s)
+read-again : (k : ℕ) (ended : Bool) (b : List ℕ) (at : ℕ) (s : LogReader) → s .entries + k ≡ maxEntries → Again ended b (readFrom k ended b at s)
 read-again zero ended b at s few = again-stop zero ended b at s (full-stop (s .entries) (drop at b) ended (omega arith))
 read-again (suc k) ended b at s few =
     ⊎-elim
@@ -64,22 +64,22 @@ Stands ended b r = consuming (r .reader) (drop (r .used) b) ended ≡ stoppedAt 
 running-stands : (ended : Bool) (b : List ℕ) (r : Consumed) → Running (r .reader) → Again ended b r → Stands ended b r
 running-stands ended b r run again = call-running (r .reader) (drop (r .used) b) ended run ∙ again
 
-start-stands : (s : LogReader) (b : List ℕ) (ended : Bool) (t : Setting) → settingOf b ≡ t → consuming s b ended ≡ startBy s b ended t
+start-stands : (s : LogReader) (b : List ℕ) (ended : Bool) (t : ConfigurationAnswer) → configurationAt b ≡ t → consuming s b ended ≡ startBy s b ended t
     → Stands ended b (startBy s b ended t)
-start-stands s b ended (wrong c p) e same = same
-start-stands s b ended (set-up ns n) e same =
+start-stands s b ended (misconfigures c p) e same = same
+start-stands s b ended (configures ns n) e same =
     let up : Running (started ns n) × (n ≤ length b) = started-runs b ns n e in
-    running-stands ended b (readFrom most ended b n (started ns n)) (read-kept most ended b n (started ns n) refl (up .1) (up .0) .running)
-    (read-again most ended b n (started ns n) refl)
+    running-stands ended b (readFrom maxEntries ended b n (started ns n)) (read-kept maxEntries ended b n (started ns n) refl (up .1) (up .0) .running)
+    (read-again maxEntries ended b n (started ns n) refl)
 
 new-stands : (s : LogReader) (b : List ℕ) (ended : Bool) → (x : Bool) → ended ≡ x → (t : Bool) → leb 261 (length b) ≡ t → consuming s b ended ≡ beginning s b ended
     → Stands ended b (consuming s b ended)
 new-stands s b ended true now t long call =
     let same = call ∙ begin-ended s b ended now in
-    subst (Stands ended b) (sym same) (start-stands s b ended (settingOf b) refl same)
+    subst (Stands ended b) (sym same) (start-stands s b ended (configurationAt b) refl same)
 new-stands s b ended false now true long call =
     let same = call ∙ begin-long s b ended now (leb-true 261 (length b) long) in
-    subst (Stands ended b) (sym same) (start-stands s b ended (settingOf b) refl same)
+    subst (Stands ended b) (sym same) (start-stands s b ended (configurationAt b) refl same)
 new-stands s b ended false now false short call =
     let same = call ∙ begin-short s b ended now (leb-false 261 (length b) short) in
     subst (Stands ended b) (sym same) same
@@ -89,8 +89,8 @@ stands-by s b ended (bad e) = let same = call-bad s b ended e in subst (Stands e
 stands-by s b ended (new good none) = new-stands s b ended ended refl (leb 261 (length b)) refl (call-start s b ended good none)
 stands-by s b ended (runs r) =
     subst (Stands ended b) (sym (call-running s b ended r))
-    (running-stands ended b (readFrom (most - s .entries) ended b 0 s) (read-kept (most - s .entries) ended b 0 s (all-left s r) (omega arith) r .running)
-    (read-again (most - s .entries) ended b 0 s (all-left s r)))
+    (running-stands ended b (readFrom (maxEntries - s .entries) ended b 0 s) (read-kept (maxEntries - s .entries) ended b 0 s (all-left s r) (omega arith) r .running)
+    (read-again (maxEntries - s .entries) ended b 0 s (all-left s r)))
 
 -- from every state: a call on what a call has left uses nothing, keeps the state, and answers the same
 pub consume-again : (s : LogReader) (b : List ℕ) (ended : Bool)

@@ -1,7 +1,7 @@
-pub mod SettingLaws
+pub mod ConfigurationLaws
 pub mod LogSteps
 pub mod LogStates
-pub mod SettingValid
+pub mod ConfigurationValid
 pub mod LogCalls
 pub mod CutTheorem
 pub mod AgainTheorem

@@ -19,8 +19,8 @@ use Rattle.record.specs.Number.{readNumber}
 use Rattle.record.specs.declared.number.Number.{Number}
 use Rattle.record.specs.declared.number.Number.the-variants.{Broken, Value}
 use Rattle.ledger.specs.Audit.{auditing}
-use Rattle.log.specs.Log.{Setting, wrong, set-up, settingOf, over, onward, nextOf, framed, judged, judgedAt}
-use Rattle.log.specs.Stream.{most, whole, settled, ready, closing, stoppedAt, stepped, readFrom, started, startBy, beginning, Running, validState, consuming}
+use Rattle.log.specs.Log.{ConfigurationAnswer, misconfigures, configures, configurationAt, over, onward, nextOf, framed, judged, judgedAt}
+use Rattle.log.specs.Stream.{maxEntries, whole, settled, ready, closing, stoppedAt, stepped, readFrom, started, startBy, beginning, Running, validState, consuming}
 use Rattle.ledger.specs.Calls.{Entry, AllAccepted, behind, entryOf, Enters}
 use Rattle.log.specs.LogRules.{Enough, Says, passed, Goes, ValidLog, Consumes}
 use Rattle.ledger.specs.Calls.Enters.{none, next}
@@ -28,8 +28,6 @@ use Rattle.log.specs.LogRules.Says.{accepts, long, broken, cut, refuses,
 use Rattle.log.specs.LogRules.ValidLog.{fresh, running}
 use Rattle.log.specs.LogRules.Consumes.{invalid, waits, misconfigured, starts, goes-on}
 use Rattle.ledger.specs.declared.ledger.Ledger.{Ledger}
-use Rattle.ledger.specs.declared.ledger.Answer.{Answer}
-use Rattle.ledger.specs.declared.ledger.Answer.the-variants as answer
 use Rattle.log.specs.declared.log.LogVerdict.the-variants.{Accepted, Refused}
 use Rattle.log.specs.declared.log.Outcome.{Outcome}
 use Rattle.log.specs.declared.log.Outcome.the-variants.{More, Over}
@@ -43,13 +41,15 @@ use Rattle.log.proofs.LogSteps.{nextAt, read-stop, read-over, read-on, 
 use Rattle.log.proofs.LogStates.{running-valid, valid-running}
 use Rattle.log.proofs.LogCalls.{begin-ended, begin-short, begin-long, call-bad, call-start, call-running}
 use Rattle.log.proofs.CutTheorem.{full-stop, empty-stop, closing-empty, closing-few, closing-full}
+use Rattle.cause.specs.declared.Verdict.{Verdict}
+use Rattle.cause.specs.declared.Verdict.the-variants as verdict
 
 -- ---- an entry that can be judged
 
-ready-by : (e : ℕ) (l : List ℕ) (ended : Bool) → 0 < length l → e < most → settled l ended ≡ true → ready e l ended ≡ true
+ready-by : (e : ℕ) (l : List ℕ) (ended : Bool) → 0 < length l → e < maxEntries → settled l ended ≡ true → ready e l ended ≡ true
 ready-by e l ended some few h =
-    ap (λ (t : Bool). pick t false (pick (leb most e) false (settled l ended))) (ne-eqb (length l) 0 (λ z. omega arith))
-    ∙ ap (λ (t : Bool). pick t false (settled l ended)) (lt-leb most e few) ∙ h
+    ap (λ (t : Bool). pick t false (pick (leb maxEntries e) false (settled l ended))) (ne-eqb (length l) 0 (λ z. omega arith))
+    ∙ ap (λ (t : Bool). pick t false (settled l ended)) (lt-leb maxEntries e few) ∙ h
 
 enough-settled : (l : List ℕ) (ended : Bool) → Enough l ended → settled l ended ≡ true
 enough-settled l ended h =
@@ -78,21 +78,21 @@ module _ (s : Ledger) (e o : ℕ) (l : List ℕ) where
         ap (λ (r : Number). framed s e o l r) g
         ∙ ap (λ (t : Bool). pick t (over (Refused e BrokenRecord o)) (judgedAt s e (v % 2) l u)) (lt-ltb (length l) (u + 256) h)
 
-    next-refused : (k : Cause) (p : ℕ) → u + 256 ≤ length l → auditing s (v % 2) (take 256 (drop u l)) .answer ≡ answer.Refused k p
+    next-refused : (k : Cause) (p : ℕ) → u + 256 ≤ length l → auditing s (v % 2) (take 256 (drop u l)) .answer ≡ verdict.Refused k p
         → nextOf s e o l ≡ over (Refused e k p)
     unfolding nextOf
     next-refused k p h q =
         ap (λ (r : Number). framed s e o l r) g
         ∙ ap (λ (t : Bool). pick t (over (Refused e BrokenRecord o)) (judgedAt s e (v % 2) l u)) (le-ltb (length l) (u + 256) h)
-        ∙ ap (λ (a : Answer). judged e (u + 256) (auditing s (v % 2) (take 256 (drop u l)) .ledger) a) q
+        ∙ ap (λ (a : Verdict). judged e (u + 256) (auditing s (v % 2) (take 256 (drop u l)) .ledger) a) q
 
-    next-takes : u + 256 ≤ length l → auditing s (v % 2) (take 256 (drop u l)) .answer ≡ answer.Accepted
+    next-takes : u + 256 ≤ length l → auditing s (v % 2) (take 256 (drop u l)) .answer ≡ verdict.Accepted
         → nextOf s e o l ≡ onward (auditing s (v % 2) (take 256 (drop u l)) .ledger) (u + 256)
     unfolding nextOf
     next-takes h q =
         ap (λ (r : Number). framed s e o l r) g
         ∙ ap (λ (t : Bool). pick t (over (Refused e BrokenRecord o)) (judgedAt s e (v % 2) l u)) (le-ltb (length l) (u + 256) h)
-        ∙ ap (λ (a : Answer). judged e (u + 256) (auditing s (v % 2) (take 256 (drop u l)) .ledger) a) q
+        ∙ ap (λ (a : Verdict). judged e (u + 256) (auditing s (v % 2) (take 256 (drop u l)) .ledger) a) q
 
 -- where an entry is not whole, it is not by its number
 not-whole : (l : List ℕ) (r : Number) → ((v u : ℕ) → r ≡ Value v u → length l < u + 256) → whole l r ≡ false
@@ -109,12 +109,12 @@ module _ (ended : Bool) (b : List ℕ) (at : ℕ) (s : LogReader) where
       → readFrom k ended b at s ≡ stoppedAt at s o
   stops k o h c = read-stop k ended b at s h ∙ ap (stoppedAt at s) c
 
-  refuses-here : (k : ℕ) (c : Cause) (p : ℕ) → s .entries + k ≡ most → s .entries < most → 0 < length rest → settled rest ended ≡ true
+  refuses-here : (k : ℕ) (c : Cause) (p : ℕ) → s .entries + k ≡ maxEntries → s .entries < maxEntries → 0 < length rest → settled rest ended ≡ true
       → nextAt s rest ≡ over (Refused (s .entries) c p) → readFrom k ended b at s ≡ stoppedAt at s (Over (Refused (s .entries) c p))
   refuses-here zero c p all few some h e = absurd (omega arith)
   refuses-here (suc k) c p all few some h e = read-over k ended b at s (Refused (s .entries) c p) (ready-by (s .entries) rest ended some few h) e
 
-  asks-here : (k : ℕ) → ended ≡ false → (s .entries < most) ⊎ (length rest ≡ 0) → length rest < 261
+  asks-here : (k : ℕ) → ended ≡ false → (s .entries < maxEntries) ⊎ (length rest ≡ 0) → length rest < 261
       → ((v u : ℕ) → readNumber rest ≡ Value v u → length rest < u + 256) → readFrom k ended b at s ≡ stoppedAt at s More
   asks-here k more few short h =
       ⊎-elim
@@ -123,14 +123,14 @@ module _ (ended : Bool) (b : List ℕ) (at : ℕ) (s : LogReader) where
       stops k More (empty-stop (s .entries) rest ended nil)
       (closing-empty (s .entries) (length rest) ended nil ∙ ap (λ (t : Bool). pick t (Over (Accepted (s .entries))) More) more))
       (λ (some : 1 ≤ length rest).
-      let low : s .entries < most = ⊎-elim (λ (x : s .entries < most). x) (λ (z : length rest ≡ 0). absurd (omega arith)) few in
+      let low : s .entries < maxEntries = ⊎-elim (λ (x : s .entries < maxEntries). x) (λ (z : length rest ≡ 0). absurd (omega arith)) few in
       stops k More
       (ready-last (s .entries) rest ended (λ z. omega arith) low more short ∙ not-whole rest (readNumber rest) h)
       (ap (λ (t : Bool). closing (s .entries) (length rest) t) more ∙ closing-few (s .entries) (length rest) low))
       (lt-or-le (length rest) 1)
 
   -- what is said is what the call stops with
-  says-stops : (k : ℕ) (o : Outcome) → s .entries + k ≡ most → Says (s .ledger) (s .entries) (s .offset) rest ended o → readFrom k ended b at s ≡ stoppedAt at s o
+  says-stops : (k : ℕ) (o : Outcome) → s .entries + k ≡ maxEntries → Says (s .ledger) (s .entries) (s .offset) rest ended o → readFrom k ended b at s ≡ stoppedAt at s o
   says-stops k o all (accepts nil end) =
       stops k (Over (Accepted (s .entries))) (empty-stop (s .entries) rest ended nil)
       (closing-empty (s .entries) (length rest) ended nil ∙ ap (λ (t : Bool). pick t (Over (Accepted (s .entries))) More) end)
@@ -162,10 +162,10 @@ module _ (ended : Bool) (b : List ℕ) (n : ℕ) (s : LogReader) where
       let reaches : s .offset + m + u ≡ s .offset + (m + u) = omega arith in
       λ i. record { ledger = sym (behind-append (s .ledger) es (e ∷ [])) i; entries = counts i; offset = reaches i }
 
-  enters-on : {es : List Entry} {m : ℕ} → Enters (drop n b) es m → AllAccepted (s .ledger) es → (k : ℕ) → s .entries + length es + k ≡ most
-      → readFrom (most - s .entries) ended b n s ≡ readFrom k ended b (n + m) (passed s es m)
+  enters-on : {es : List Entry} {m : ℕ} → Enters (drop n b) es m → AllAccepted (s .ledger) es → (k : ℕ) → s .entries + length es + k ≡ maxEntries
+      → readFrom (maxEntries - s .entries) ended b n s ≡ readFrom k ended b (n + m) (passed s es m)
   enters-on none a k all =
-      let left : most - s .entries ≡ k = omega arith in
+      let left : maxEntries - s .entries ≡ k = omega arith in
       let here : n ≡ n + 0 = omega arith in
       ap (λ (j : ℕ). readFrom j ended b n s) left ∙ ap (λ (j : ℕ). readFrom k ended b j s) here ∙ ap (readFrom k ended b (n + 0)) passed-none
   enters-on (next {es} {n = m} v u f g h) a k all =
@@ -185,13 +185,13 @@ module _ (ended : Bool) (b : List ℕ) (n : ℕ) (s : LogReader) where
       ∙ ap (readFrom k ended b (n + (m + (u + 256)))) (passed-more es m e (u + 256))
 
   -- what the rules say is what it gives
-  pub goes-only : (r : Consumed) → Goes s b n ended r → r ≡ readFrom (most - s .entries) ended b n s
+  pub goes-only : (r : Consumed) → Goes s b n ended r → r ≡ readFrom (maxEntries - s .entries) ended b n s
   goes-only r h =
       let es = h .calls in
       let m = h .bytes in
       let few = h .few in
-      sym (enters-on (h .front) (h .accepted) (most - (s .entries + length es)) (omega arith)
-      ∙ says-stops ended b (n + m) (passed s es m) (most - (s .entries + length es)) (r .outcome) (omega arith) (h .says)
+      sym (enters-on (h .front) (h .accepted) (maxEntries - (s .entries + length es)) (omega arith)
+      ∙ says-stops ended b (n + m) (passed s es m) (maxEntries - (s .entries + length es)) (r .outcome) (omega arith) (h .says)
       ∙ (λ i. record { reader = sym (h .reader) i; used = sym (h .used) i; outcome = r .outcome }))
 
 -- ---- what is said, or the next entry
@@ -204,16 +204,16 @@ enough-or l ended f g =
 
 data Step (s : Ledger) (e o : ℕ) (l : List ℕ) (ended : Bool) : Type 0 where
   said : (r : Outcome) → Says s e o l ended r → Step s e o l ended
-  taken : (v u : ℕ) → e < most → readNumber l ≡ Value v u → u + 256 ≤ length l → auditing s (v % 2) (take 256 (drop u l)) .answer ≡ answer.Accepted
+  taken : (v u : ℕ) → e < maxEntries → readNumber l ≡ Value v u → u + 256 ≤ length l → auditing s (v % 2) (take 256 (drop u l)) .answer ≡ verdict.Accepted
       → Step s e o l ended
 
 module _ (s : Ledger) (e o : ℕ) (l : List ℕ) (ended : Bool) where
-  step-answer : (v u : ℕ) → e < most → readNumber l ≡ Value v u → u + 256 ≤ length l → (a : Answer) → auditing s (v % 2) (take 256 (drop u l)) .answer ≡ a
+  step-answer : (v u : ℕ) → e < maxEntries → readNumber l ≡ Value v u → u + 256 ≤ length l → (a : Verdict) → auditing s (v % 2) (take 256 (drop u l)) .answer ≡ a
       → Step s e o l ended
-  step-answer v u few g h (answer.Refused k p) q = said (Over (Refused e k p)) (refuses v u k p few g h q)
-  step-answer v u few g h answer.Accepted q = taken v u few g h q
+  step-answer v u few g h (verdict.Refused k p) q = said (Over (Refused e k p)) (refuses v u k p few g h q)
+  step-answer v u few g h verdict.Accepted q = taken v u few g h q
 
-  step-number : 0 < length l → e < most → (r : Number) → readNumber l ≡ r → Step s e o l ended
+  step-number : 0 < length l → e < maxEntries → (r : Number) → readNumber l ≡ r → Step s e o l ended
   step-number some few Broken g =
       enough-or l ended (λ enough. said (Over (Refused e BrokenRecord o)) (broken some few enough g))
       (λ more short. said More (asks more (inl few) short (λ v u h. absurd (let z : _≡_ {A = ℕ} 0 1 = cc in omega arith))))
@@ -236,20 +236,20 @@ module _ (s : Ledger) (e o : ℕ) (l : List ℕ) (ended : Bool) where
       (λ (f : ended ≡ false). said More (asks f (inr (omega arith)) (omega arith) (λ v u h. omega arith)))
       (cases ended))
       (λ (some : 1 ≤ length l). ⊎-elim
-      (λ (few : e < most). step-number some few (readNumber l) refl)
-      (λ (full : most ≤ e). said (Over (Refused e TooLong 0)) (long some full))
-      (lt-or-le e most))
+      (λ (few : e < maxEntries). step-number some few (readNumber l) refl)
+      (λ (full : maxEntries ≤ e). said (Over (Refused e TooLong 0)) (long some full))
+      (lt-or-le e maxEntries))
       (lt-or-le (length l) 1)
 
 -- ---- the entries of a call
 
 module _ (ended : Bool) (b : List ℕ) (n : ℕ) (s : LogReader) where
   abbrev whole-call : Consumed
-  whole-call = readFrom (most - s .entries) ended b n s
+  whole-call = readFrom (maxEntries - s .entries) ended b n s
 
   -- behind entries that are accepted, k of them are still allowed
-  goes-step : (k : ℕ) (es : List Entry) (m : ℕ) → Enters (drop n b) es m → AllAccepted (s .ledger) es → s .entries + length es + k ≡ most
-      → ((v u : ℕ) → s .entries + length es < most → readNumber (drop m (drop n b)) ≡ Value v u → u + 256 ≤ length (drop m (drop n b))
+  goes-step : (k : ℕ) (es : List Entry) (m : ℕ) → Enters (drop n b) es m → AllAccepted (s .ledger) es → s .entries + length es + k ≡ maxEntries
+      → ((v u : ℕ) → s .entries + length es < maxEntries → readNumber (drop m (drop n b)) ≡ Value v u → u + 256 ≤ length (drop m (drop n b))
       → AllAccepted (s .ledger) (es ++ (entryOf (drop m (drop n b)) v u ∷ [])) → Goes s b n ended whole-call)
       → Step (behind (s .ledger) es) (s .entries + length es) (s .offset + m) (drop m (drop n b)) ended → Goes s b n ended whole-call
   goes-step k es m f a all go (said r says) =
@@ -260,7 +260,7 @@ module _ (ended : Bool) (b : List ℕ) (n : ℕ) (s : LogReader) where
   goes-step k es m f a all go (taken v u few g h q) =
       go v u few g h (accepted-more (s .ledger) es (entryOf (drop m (drop n b)) v u) a q)
 
-  goes-from : (k : ℕ) (es : List Entry) (m : ℕ) → Enters (drop n b) es m → AllAccepted (s .ledger) es → s .entries + length es + k ≡ most
+  goes-from : (k : ℕ) (es : List Entry) (m : ℕ) → Enters (drop n b) es m → AllAccepted (s .ledger) es → s .entries + length es + k ≡ maxEntries
       → Goes s b n ended whole-call
   goes-from zero es m f a all =
       goes-step zero es m f a all (λ v u few g h more. absurd (omega arith))
@@ -273,8 +273,8 @@ module _ (ended : Bool) (b : List ℕ) (n : ℕ) (s : LogReader) where
       (step-of (behind (s .ledger) es) (s .entries + length es) (s .offset + m) (drop m (drop n b)) ended)
 
   -- the rules say what it gives
-  goes-follows : s .entries ≤ most → Goes s b n ended whole-call
-  goes-follows few = goes-from (most - s .entries) [] 0 none tt (omega arith)
+  goes-follows : s .entries ≤ maxEntries → Goes s b n ended whole-call
+  goes-follows few = goes-from (maxEntries - s .entries) [] 0 none tt (omega arith)
 
 -- ---- a call
 
@@ -299,14 +299,14 @@ module _ (s : LogReader) where
   runs v some = valid-running s (log-valid v) (λ z. omega arith)
 
 module _ (s : LogReader) (b : List ℕ) (ended : Bool) where
-  begins : Enough b ended → beginning s b ended ≡ startBy s b ended (settingOf b)
+  begins : Enough b ended → beginning s b ended ≡ startBy s b ended (configurationAt b)
   begins h =
       ⊎-elim (λ (t : ended ≡ true). begin-ended s b ended t)
       (λ (q : 261 ≤ length b). ⊎-elim (λ (t : ended ≡ true). begin-ended s b ended t) (λ (f : ended ≡ false). begin-long s b ended f q) (cases ended))
       h
 
   -- by what the configuration comes to
-  begins-with : (t : Setting) → validState s ≡ true → s .offset ≡ 0 → Enough b ended → settingOf b ≡ t → consuming s b ended ≡ startBy s b ended t
+  begins-with : (t : ConfigurationAnswer) → validState s ≡ true → s .offset ≡ 0 → Enough b ended → configurationAt b ≡ t → consuming s b ended ≡ startBy s b ended t
   begins-with t v z h e = call-start s b ended v z ∙ begins h ∙ ap (startBy s b ended) e
 
   -- what the rules say is what it gives
@@ -316,9 +316,9 @@ module _ (s : LogReader) (b : List ℕ) (ended : Bool) where
       sym (call-start s b ended (log-valid s v) z
       ∙ begin-short s b ended (not-true-false ended (λ t. h (inl t)))
       (⊎-elim (λ (short : length b < 261). short) (λ (q : 261 ≤ length b). absurd (h (inr q))) (lt-or-le (length b) 261)))
-  consume-only r (misconfigured k p v z h f) = sym (begins-with (wrong k p) (log-valid s v) z h (fault-wrong b f))
+  consume-only r (misconfigured k p v z h f) = sym (begins-with (misconfigures k p) (log-valid s v) z h (fault-wrong b f))
   consume-only r (starts ns n v z h f full g) =
-      goes-only ended b n (started ns n) r g ∙ sym (begins-with (set-up ns n) (log-valid s v) z h (numbers-set-up b f full))
+      goes-only ended b n (started ns n) r g ∙ sym (begins-with (configures ns n) (log-valid s v) z h (numbers-set-up b f full))
   consume-only r (goes-on v some g) = goes-only ended b 0 s r g ∙ sym (call-running s b ended (runs s v some))
 
   follows : {r : Consumed} → Consumes s b ended r → Consumes s b ended (consuming s b ended)

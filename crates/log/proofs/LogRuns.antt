@@ -22,13 +22,11 @@ use Rattle.ledger.specs.Calls.{behind, entryOf, NoEntry}
 use Rattle.ledger.specs.Run.{halted, running, runOver}
 use Rattle.ledger.specs.RunRules.{RunRule, invalid, all, refused}
 use Rattle.ledger.specs.declared.ledger.Ledger.{Ledger}
-use Rattle.ledger.specs.declared.ledger.Answer.{Answer}
-use Rattle.ledger.specs.declared.ledger.Answer.the-variants as answer
 use Rattle.ledger.specs.declared.entries.Run.{Run}
 use Rattle.ledger.proofs.ValidLedgerLaws.{ledger-exactly}
 use Rattle.ledger.proofs.RunLaws.{Bounded, over-bounded}
 use Rattle.ledger.proofs.RunRuleLaws.{run-follows}
-use Rattle.log.specs.Stream.{most, stoppedAt, readFrom}
+use Rattle.log.specs.Stream.{maxEntries, stoppedAt, readFrom}
 use Rattle.log.specs.ConcludingMirror.{concluding, readOn}
 use Rattle.log.specs.LogRules.{Enough, Says, Goes}
 use Rattle.log.specs.LogRules.Says.{accepts, long, broken, cut, refuses, asks}
@@ -38,6 +36,8 @@ use Rattle.log.specs.declared.log.Outcome.the-variants.{More, Over}
 use Rattle.log.specs.declared.log.LogReader.{LogReader}
 use Rattle.log.specs.declared.log.Consumed.{Consumed}
 use Rattle.log.proofs.LogRuleLaws.{goes-only, enough-or}
+use Rattle.cause.specs.declared.Verdict.{Verdict}
+use Rattle.cause.specs.declared.Verdict.the-variants as verdict
 
 -- ---- what is said where no whole entry is left
 
@@ -51,7 +51,7 @@ module _ (s : Ledger) (e o : ℕ) (l : List ℕ) (ended : Bool) where
   none-left z false more = asks more (inr z) (omega arith) (λ v u g. omega arith)
 
   -- an entry begins, and is not whole
-  broken-left : 0 < length l → e < most → Enough l ended → NoEntry l → (r : Number) → readNumber l ≡ r → Said (Over (Refused e BrokenRecord o))
+  broken-left : 0 < length l → e < maxEntries → Enough l ended → NoEntry l → (r : Number) → readNumber l ≡ r → Said (Over (Refused e BrokenRecord o))
   broken-left some few enough lacks Broken g = broken some few enough g
   broken-left some few enough lacks (Value v u) g =
       let short = lacks v u g in
@@ -61,7 +61,7 @@ module _ (s : Ledger) (e o : ℕ) (l : List ℕ) (ended : Bool) where
   abbrev enough : Bool
   enough = pick ended true (leb 261 (length l))
 
-  some-left : 0 < length l → e < most → NoEntry l → Said (pick enough (Over (Refused e BrokenRecord o)) More)
+  some-left : 0 < length l → e < maxEntries → NoEntry l → Said (pick enough (Over (Refused e BrokenRecord o)) More)
   some-left some few lacks =
       enough-or l ended
       (λ (h : Enough l ended).
@@ -72,27 +72,27 @@ module _ (s : Ledger) (e o : ℕ) (l : List ℕ) (ended : Bool) where
       rw not-yet (asks more (inl few) short lacks))
 
   -- one byte of one entry too many, or of one that is not whole
-  limit-left : 0 < length l → (e ≡ most) ⊎ NoEntry l → (t : Bool) → leb most e ≡ t → Said (pick t (Over (Refused e TooLong 0)) (pick enough (Over (Refused e BrokenRecord o)) More))
-  limit-left some h true full = long some (leb-true most e full)
+  limit-left : 0 < length l → (e ≡ maxEntries) ⊎ NoEntry l → (t : Bool) → leb maxEntries e ≡ t → Said (pick t (Over (Refused e TooLong 0)) (pick enough (Over (Refused e BrokenRecord o)) More))
+  limit-left some h true full = long some (leb-true maxEntries e full)
   limit-left some h false t =
-      let few = leb-false most e t in
-      ⊎-elim (λ (full : e ≡ most). absurd (omega arith)) (λ (lacks : NoEntry l). some-left some few lacks) h
+      let few = leb-false maxEntries e t in
+      ⊎-elim (λ (full : e ≡ maxEntries). absurd (omega arith)) (λ (lacks : NoEntry l). some-left some few lacks) h
 
-  pub concludes : (e ≡ most) ⊎ NoEntry l → Said (concluding e o (length l) ended)
+  pub concludes : (e ≡ maxEntries) ⊎ NoEntry l → Said (concluding e o (length l) ended)
   concludes h =
       ⊎-elim
       (λ (z : length l < 1).
       let nil : length l ≡ 0 = omega arith in
       rw (eq-eqb (length l) 0 nil) (none-left nil ended refl))
-      (λ (some : 1 ≤ length l). rw (ne-eqb (length l) 0 (λ z. omega arith)) (limit-left some h (leb most e) refl))
+      (λ (some : 1 ≤ length l). rw (ne-eqb (length l) 0 (λ z. omega arith)) (limit-left some h (leb maxEntries e) refl))
       (lt-or-le (length l) 1)
 
 -- ---- a call by its run
 
 -- what the answer of a run comes to
-abbrev pub saidBy : Answer → ℕ → ℕ → ℕ → Bool → Outcome
-saidBy (answer.Refused c p) e o left ended = Over (Refused e c p)
-saidBy answer.Accepted e o left ended = concluding e o left ended
+abbrev pub saidBy : Verdict → ℕ → ℕ → ℕ → Bool → Outcome
+saidBy (verdict.Refused c p) e o left ended = Over (Refused e c p)
+saidBy verdict.Accepted e o left ended = concluding e o left ended
 
 module _ (b : List ℕ) (at : ℕ) (ended : Bool) (s : LogReader) where
   -- the state behind a run, and the call
@@ -102,7 +102,7 @@ module _ (b : List ℕ) (at : ℕ) (ended : Bool) (s : LogReader) where
   abbrev pub callBy : Run → Consumed
   callBy r = stoppedAt (at + r .used) (stateBy r) (saidBy (r .answer) (s .entries + r .accepted) (s .offset + r .used) (length (drop (at + r .used) b)) ended)
 
-  run-goes : (r : Run) → s .entries ≤ most → RunRule (s .ledger) (most - s .entries) (drop at b) r → ledgerOk (s .ledger) ≡ true → Goes s b at ended (callBy r)
+  run-goes : (r : Run) → s .entries ≤ maxEntries → RunRule (s .ledger) (maxEntries - s .entries) (drop at b) r → ledgerOk (s .ledger) ≡ true → Goes s b at ended (callBy r)
   run-goes r few (invalid bad) ok = absurd (bad (ledger-exactly (s .ledger) .0 ok))
   run-goes r few (all es n h low how) ok =
       let here = drop-drop n at b in
@@ -115,7 +115,7 @@ module _ (b : List ℕ) (at : ℕ) (ended : Bool) (s : LogReader) where
         reader = refl;
         used = refl;
         says = concludes (behind (s .ledger) es) (s .entries + length es) (s .offset + n) (drop (at + n) b) ended
-            (⊎-elim (λ (full : length es ≡ most - s .entries). inl (omega arith)) (λ (lacks : NoEntry (drop n (drop at b))). inr (subst NoEntry here lacks)) how);
+            (⊎-elim (λ (full : length es ≡ maxEntries - s .entries). inl (omega arith)) (λ (lacks : NoEntry (drop n (drop at b))). inr (subst NoEntry here lacks)) how);
       }
   run-goes r few (refused es n v u k p h low g q a) ok =
       let here = drop-drop n at b in
@@ -135,31 +135,31 @@ module _ (b : List ℕ) (at : ℕ) (ended : Bool) (s : LogReader) where
   nothing : (n : ℕ) → n + 0 ≡ n
   nothing n = omega arith
 
-  call-none : callBy (halted (s .ledger) 0 0 (answer.Refused InvalidState 0)) ≡ stoppedAt at s (Over (Refused (s .entries) InvalidState 0))
+  call-none : callBy (halted (s .ledger) 0 0 (verdict.Refused InvalidState 0)) ≡ stoppedAt at s (Over (Refused (s .entries) InvalidState 0))
   call-none = λ i. record {
     reader = record { ledger = s .ledger; entries = nothing (s .entries) i; offset = nothing (s .offset) i };
     used = nothing at i;
     outcome = Over (Refused (nothing (s .entries) i) InvalidState 0);
   }
 
-  run-valid : s .entries ≤ most → (t : Bool) → ledgerOk (s .ledger) ≡ t
-      → callBy (pick t (running (most - s .entries) (s .ledger) 0 0 (drop at b)) (halted (s .ledger) 0 0 (answer.Refused InvalidState 0)))
-      ≡ pick t (readFrom (most - s .entries) ended b at s) (stoppedAt at s (Over (Refused (s .entries) InvalidState 0)))
+  run-valid : s .entries ≤ maxEntries → (t : Bool) → ledgerOk (s .ledger) ≡ t
+      → callBy (pick t (running (maxEntries - s .entries) (s .ledger) 0 0 (drop at b)) (halted (s .ledger) 0 0 (verdict.Refused InvalidState 0)))
+      ≡ pick t (readFrom (maxEntries - s .entries) ended b at s) (stoppedAt at s (Over (Refused (s .entries) InvalidState 0)))
   run-valid few true ok =
-      let follows = rw ok at (run-follows (s .ledger) (most - s .entries) (drop at b)) in
-      goes-only ended b at s (callBy (running (most - s .entries) (s .ledger) 0 0 (drop at b))) (run-goes (running (most - s .entries) (s .ledger) 0 0 (drop at b)) few follows ok)
+      let follows = rw ok at (run-follows (s .ledger) (maxEntries - s .entries) (drop at b)) in
+      goes-only ended b at s (callBy (running (maxEntries - s .entries) (s .ledger) 0 0 (drop at b))) (run-goes (running (maxEntries - s .entries) (s .ledger) 0 0 (drop at b)) few follows ok)
   run-valid few false bad = call-none
 
   -- the entries of a call are those of the run
-  pub call-run : (r : Run) → s .entries ≤ most → r ≡ runOver (s .ledger) (most - s .entries) (drop at b) → callBy r ≡ readOn s b at ended
+  pub call-run : (r : Run) → s .entries ≤ maxEntries → r ≡ runOver (s .ledger) (maxEntries - s .entries) (drop at b) → callBy r ≡ readOn s b at ended
   call-run r few e = ap callBy e ∙ run-valid few (ledgerOk (s .ledger)) refl
 
   -- what it uses and accepts is within the bytes at hand and the limits of a log
-  pub run-room : (r : Run) → r ≡ runOver (s .ledger) (most - s .entries) (drop at b) → s .entries ≤ most → s .offset ≤ 165 + 261 * s .entries → at ≤ length b
-      → (at + r .used ≤ length b) × (s .entries + r .accepted ≤ most) × (s .offset + r .used ≤ 165 + 261 * most)
+  pub run-room : (r : Run) → r ≡ runOver (s .ledger) (maxEntries - s .entries) (drop at b) → s .entries ≤ maxEntries → s .offset ≤ 165 + 261 * s .entries → at ≤ length b
+      → (at + r .used ≤ length b) × (s .entries + r .accepted ≤ maxEntries) × (s .offset + r .used ≤ 165 + 261 * maxEntries)
   run-room r e few near fit =
-      let w : Bounded (most - s .entries) 0 0 (drop at b) r = rw e (over-bounded (s .ledger) (most - s .entries) (drop at b)) in
+      let w : Bounded (maxEntries - s .entries) 0 0 (drop at b) r = rw e (over-bounded (s .ledger) (maxEntries - s .entries) (drop at b)) in
       let inside = w .inside in
-      let high = w .most in
+      let high = w .limit in
       let close = w .near in
       (omega (arith, length-drop at b), omega arith, omega arith)

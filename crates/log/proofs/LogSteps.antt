@@ -17,15 +17,15 @@ use Rattle.record.specs.declared.number.Number.{Number}
 use Rattle.record.specs.declared.number.Number.the-variants.{Broken, Value}
 use Rattle.ledger.specs.Audit.{auditing}
 use Rattle.log.specs.Log.{Next, over, onward, nextOf, framed, judged, judgedAt, after, entriesFrom}
-use Rattle.log.specs.Stream.{most, whole, settled, ready, closing, stoppedAt, stepped, readFrom}
+use Rattle.log.specs.Stream.{maxEntries, whole, settled, ready, closing, stoppedAt, stepped, readFrom}
 use Rattle.ledger.specs.declared.ledger.Ledger.{Ledger}
-use Rattle.ledger.specs.declared.ledger.Answer.{Answer}
-use Rattle.ledger.specs.declared.ledger.Answer.the-variants as answer
 use Rattle.log.specs.declared.log.LogVerdict.{LogVerdict}
 use Rattle.log.specs.declared.log.LogVerdict.the-variants.{Accepted, Refused}
 use Rattle.log.specs.declared.log.Outcome.the-variants.{Over}
 use Rattle.log.specs.declared.log.LogReader.{LogReader}
 use Rattle.record.proofs.NumberTakes.{Takes, takes-number, number-append, number-stays}
+use Rattle.cause.specs.declared.Verdict.{Verdict}
+use Rattle.cause.specs.declared.Verdict.the-variants as verdict
 
 -- the entry at the front of the bytes from `at` on
 abbrev pub nextAt : LogReader → List ℕ → Next
@@ -89,9 +89,9 @@ abbrev pub Fits : Next → ℕ → Type 0
 Fits (over v) m = Unit {0}
 Fits (onward next u) m = (257 ≤ u) × ((u ≤ 261) × (u ≤ m))
 
-fits-judged : (e u m : ℕ) (next : Ledger) (a : Answer) → 257 ≤ u → u ≤ 261 → u ≤ m → Fits (judged e u next a) m
-fits-judged e u m next (answer.Refused c p) x y z = tt
-fits-judged e u m next answer.Accepted x y z = (x, (y, z))
+fits-judged : (e u m : ℕ) (next : Ledger) (a : Verdict) → 257 ≤ u → u ≤ 261 → u ≤ m → Fits (judged e u next a) m
+fits-judged e u m next (verdict.Refused c p) x y z = tt
+fits-judged e u m next verdict.Accepted x y z = (x, (y, z))
 
 fits-framed : (s : Ledger) (e o : ℕ) (l : List ℕ) (r : Number) → Takes r 5 (length l) → Fits (framed s e o l r) (length l)
 fits-framed s e o l Broken h = tt
@@ -146,28 +146,28 @@ settled-same s e o l m false t h = next-whole s e o l m h
 
 pub record Ready (e : ℕ) (l : List ℕ) (ended : Bool) : Type 0 where
   pub some : length l ≡ 0 → ⊥
-  pub few : e < most
+  pub few : e < maxEntries
   pub settled : settled l ended ≡ true
 
-ready-few : (e : ℕ) (l : List ℕ) (ended : Bool) (t : Bool) → leb most e ≡ t → (length l ≡ 0 → ⊥) → pick t false (settled l ended) ≡ true
+ready-few : (e : ℕ) (l : List ℕ) (ended : Bool) (t : Bool) → leb maxEntries e ≡ t → (length l ≡ 0 → ⊥) → pick t false (settled l ended) ≡ true
     → Ready e l ended
 ready-few e l ended true f n h = absurd (never-both refl h)
-ready-few e l ended false f n h = record { some = n; few = leb-false most e f; settled = h }
+ready-few e l ended false f n h = record { some = n; few = leb-false maxEntries e f; settled = h }
 
-ready-some : (e : ℕ) (l : List ℕ) (ended : Bool) (t : Bool) → eqb (length l) 0 ≡ t → pick t false (pick (leb most e) false (settled l ended)) ≡ true
+ready-some : (e : ℕ) (l : List ℕ) (ended : Bool) (t : Bool) → eqb (length l) 0 ≡ t → pick t false (pick (leb maxEntries e) false (settled l ended)) ≡ true
     → Ready e l ended
 ready-some e l ended true n h = absurd (never-both refl h)
-ready-some e l ended false n h = ready-few e l ended (leb most e) refl (eqb-false (length l) 0 n) h
+ready-some e l ended false n h = ready-few e l ended (leb maxEntries e) refl (eqb-false (length l) 0 n) h
 
 pub when-ready : (e : ℕ) (l : List ℕ) (ended : Bool) → ready e l ended ≡ true → Ready e l ended
 when-ready e l ended h = ready-some e l ended (eqb (length l) 0) refl h
 
 -- where none of the other reasons holds, it can be judged if its bytes are there
-pub ready-last : (e : ℕ) (l : List ℕ) (ended : Bool) → (length l ≡ 0 → ⊥) → e < most → ended ≡ false → length l < 261
+pub ready-last : (e : ℕ) (l : List ℕ) (ended : Bool) → (length l ≡ 0 → ⊥) → e < maxEntries → ended ≡ false → length l < 261
     → ready e l ended ≡ whole l (readNumber l)
 ready-last e l ended some few more short =
-    ap (λ (t : Bool). pick t false (pick (leb most e) false (settled l ended))) (ne-eqb (length l) 0 some)
-    ∙ ap (λ (t : Bool). pick t false (settled l ended)) (lt-leb most e few)
+    ap (λ (t : Bool). pick t false (pick (leb maxEntries e) false (settled l ended))) (ne-eqb (length l) 0 some)
+    ∙ ap (λ (t : Bool). pick t false (settled l ended)) (lt-leb maxEntries e few)
     ∙ ap (λ (t : Bool). settled l t) more
     ∙ ap (λ (t : Bool). pick t true (whole l (readNumber l))) (lt-leb 261 (length l) short)
 

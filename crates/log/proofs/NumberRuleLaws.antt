@@ -18,15 +18,15 @@ use Rattle.record.specs.declared.number.Number.{Number}
 use Rattle.record.specs.declared.number.Number.the-variants.{Broken, Value}
 use Rattle.pools.specs.Pools.{hasPool}
 use Rattle.pools.specs.PoolRules.{Exists}
-use Rattle.log.specs.Log.{wrong, set-up, settingFrom, settingOf, valueOk, suits, receiverAt}
+use Rattle.log.specs.Log.{misconfigures, configures, configurationFrom, configurationAt, valueOk, suits, receiverAt}
 use Rattle.log.specs.LogRules.{Suits, Numbers, ConfigurationFault}
 use Rattle.log.specs.LogRules.Suits.{format, planes, push, capacity}
 use Rattle.log.specs.LogRules.Numbers.{none, next}
 use Rattle.log.specs.LogRules.ConfigurationFault.{broken, invalid}
 use Rattle.pools.specs.declared.receiver.Receiver.{Receiver}
 use Rattle.pools.proofs.PoolRuleLaws.{exists-exactly}
-use Rattle.log.proofs.SettingLaws.{setting-broken, setting-wrong, setting-on, setting-done}
-use Rattle.log.proofs.SettingValid.{value-same, value-at, suits-capacity}
+use Rattle.log.proofs.ConfigurationLaws.{configuration-broken, configuration-wrong, configuration-on, configuration-done}
+use Rattle.log.proofs.ConfigurationValid.{value-same, value-at, suits-capacity}
 
 -- ---- a number may stand where the test says so
 
@@ -94,31 +94,31 @@ set-filled ns k v = set-append-seam ns 0 (replicate k 0) v ∙ sym (append-assoc
 
 module _ (l : List ℕ) where
   numbers-from : {ns : List ℕ} {n : ℕ} → Numbers l ns n → (k : ℕ) → length ns + k ≡ 33
-      → settingOf l ≡ settingFrom k (filled ns k) (length ns) n (drop n l)
+      → configurationAt l ≡ configurationFrom k (filled ns k) (length ns) n (drop n l)
   numbers-from none k e =
       let same : 33 ≡ k = omega arith in
-      ap (λ (j : ℕ). settingFrom j (replicate j 0) 0 0 l) same
+      ap (λ (j : ℕ). configurationFrom j (replicate j 0) 0 0 l) same
   numbers-from (next {ns} {n} v u f g s) k e =
       let one : length (ns ++ (v ∷ [])) ≡ length ns + 1 = length-append ns (v ∷ []) in
       numbers-from f (suc k) (omega arith)
-      ∙ setting-on k (filled ns (suc k)) (length ns) n (drop n l) v u g (value-filled ns (suc k) v ∙ suits-value ns v s)
-      ∙ ap (λ (ms : List ℕ). settingFrom k ms (length ns + 1) (n + u) (drop u (drop n l))) (set-filled ns k v)
-      ∙ ap (λ (i : ℕ). settingFrom k (filled (ns ++ (v ∷ [])) k) i (n + u) (drop u (drop n l))) (sym one)
-      ∙ ap (λ (m : List ℕ). settingFrom k (filled (ns ++ (v ∷ [])) k) (length (ns ++ (v ∷ []))) (n + u) m) (drop-drop u n l)
+      ∙ configuration-on k (filled ns (suc k)) (length ns) n (drop n l) v u g (value-filled ns (suc k) v ∙ suits-value ns v s)
+      ∙ ap (λ (ms : List ℕ). configurationFrom k ms (length ns + 1) (n + u) (drop u (drop n l))) (set-filled ns k v)
+      ∙ ap (λ (i : ℕ). configurationFrom k (filled (ns ++ (v ∷ [])) k) i (n + u) (drop u (drop n l))) (sym one)
+      ∙ ap (λ (m : List ℕ). configurationFrom k (filled (ns ++ (v ∷ [])) k) (length (ns ++ (v ∷ []))) (n + u) m) (drop-drop u n l)
 
   -- all 33 may stand where they stand
-  pub numbers-set-up : {ns : List ℕ} {n : ℕ} → Numbers l ns n → length ns ≡ 33 → settingOf l ≡ set-up ns n
+  pub numbers-set-up : {ns : List ℕ} {n : ℕ} → Numbers l ns n → length ns ≡ 33 → configurationAt l ≡ configures ns n
   numbers-set-up {ns} {n} f full =
-      numbers-from f 0 (omega arith) ∙ setting-done (filled ns 0) (length ns) n (drop n l) ∙ ap (λ (ms : List ℕ). set-up ms n) (append-nil ns)
+      numbers-from f 0 (omega arith) ∙ configuration-done (filled ns 0) (length ns) n (drop n l) ∙ ap (λ (ms : List ℕ). configures ms n) (append-nil ns)
 
   -- one is broken, or may not
-  pub fault-wrong : {k : Cause} {p : ℕ} → ConfigurationFault l k p → settingOf l ≡ wrong k p
+  pub fault-wrong : {k : Cause} {p : ℕ} → ConfigurationFault l k p → configurationAt l ≡ misconfigures k p
   fault-wrong (broken ns n f low e) =
       numbers-from f (suc (32 - length ns)) (omega arith)
-      ∙ setting-broken (32 - length ns) (filled ns (suc (32 - length ns))) (length ns) n (drop n l) e
+      ∙ configuration-broken (32 - length ns) (filled ns (suc (32 - length ns))) (length ns) n (drop n l) e
   fault-wrong (invalid ns n v u f low e bad) =
       numbers-from f (suc (32 - length ns)) (omega arith)
-      ∙ setting-wrong (32 - length ns) (filled ns (suc (32 - length ns))) (length ns) n (drop n l) v u e
+      ∙ configuration-wrong (32 - length ns) (filled ns (suc (32 - length ns))) (length ns) n (drop n l) v u e
       (value-filled ns (suc (32 - length ns)) v ∙ not-true-false (valueOk ns (length ns) v) (λ t. bad (suits-exactly ns v low .0 t)))
 
 -- a configuration has its 33 numbers or a fault

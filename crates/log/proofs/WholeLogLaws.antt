@@ -13,7 +13,7 @@ use Rattle.record.specs.declared.number.Number.the-variants.{Value}
 use Rattle.record.specs.Number.{readNumber}
 use Rattle.ledger.specs.Audit.{auditing}
 use Rattle.log.specs.Log.{receiverAt, ledgerOf, logVerdict}
-use Rattle.log.specs.Stream.{most, started, stoppedAt, freshReader}
+use Rattle.log.specs.Stream.{maxEntries, started, stoppedAt, freshReader}
 use Rattle.ledger.specs.Calls.{behind, entryOf}
 use Rattle.log.specs.LogRules.{Numbers, ConfigurationFault, Says, passed, Goes, Consumes}
 use Rattle.log.specs.LogRules.ConfigurationFault.{broken as number-broken, invalid as number-invalid}
@@ -24,17 +24,17 @@ use Rattle.log.specs.LogRules.Consumes.{invalid, waits, misconfigured, s
 use Rattle.log.specs.WholeLog.{BegunLog, AcceptedLog, RefusedLog, Framing}
 use Rattle.log.specs.WholeLog.Framing.{broken-record, too-long, invalid-state}
 use Rattle.ledger.specs.declared.ledger.Ledger.{Ledger}
-use Rattle.ledger.specs.declared.ledger.Answer.the-variants as answer
 use Rattle.log.specs.declared.log.LogVerdict.{LogVerdict}
 use Rattle.log.specs.declared.log.LogVerdict.the-variants.{Accepted, Refused}
 use Rattle.log.specs.declared.log.Outcome.{Outcome}
 use Rattle.log.specs.declared.log.Outcome.the-variants.{Over}
 use Rattle.log.specs.declared.log.Consumed.{Consumed}
 use Rattle.ledger.proofs.ValidLedgerLaws.{configured-exactly}
-use Rattle.log.proofs.SettingValid.{setting-configured}
+use Rattle.log.proofs.ConfigurationValid.{configuration-configured}
 use Rattle.log.proofs.NumberRuleLaws.{numbers-set-up}
 use Rattle.log.proofs.LogRuleLaws.{consume-only, consume-follows}
 use Rattle.log.proofs.CutTheorem.{whole-log}
+use Rattle.cause.specs.declared.Verdict.the-variants as verdict
 
 -- ---- what a verdict comes from
 
@@ -50,7 +50,7 @@ seen-by l (misconfigured k p a z h f) v e = faulty k p f cc
 seen-by l {r} (starts ns w a z h f full g) v e = entered ns w f full r g e
 seen-by l (goes-on a some g) v e = absurd (omega arith)
 
-seen : (l : List ℕ) (v : LogVerdict) → logVerdict most l ≡ v → Seen l v
+seen : (l : List ℕ) (v : LogVerdict) → logVerdict maxEntries l ≡ v → Seen l v
 seen l v h = seen-by l (consume-follows freshReader l true) v (whole-log l ∙ ap Over h)
 
 abbrev begun-log : (l ns : List ℕ) (w : ℕ) → Numbers l ns w → length ns ≡ 33 → (r : Consumed) (g : Goes (started ns w) l w true r) (n : ℕ) → 0 + length (g .calls) ≡ n → BegunLog l n
@@ -59,7 +59,7 @@ begun-log l ns w f full r g n e = record {
   width = w;
   taken = f;
   full = full;
-  valid = configured-exactly (getD ns 0 0) (receiverAt ns 1) (receiverAt ns 17) .0 (setting-configured l ns w (numbers-set-up l f full));
+  valid = configured-exactly (getD ns 0 0) (receiverAt ns 1) (receiverAt ns 17) .0 (configuration-configured l ns w (numbers-set-up l f full));
   calls = g .calls;
   bytes = g .bytes;
   front = g .front;
@@ -80,7 +80,7 @@ says-accepted n (cut v u few end g short) h = clash cc
 says-accepted n (refuses v u k p few g q t) h = clash cc
 says-accepted n (asks more few short g) h = clash cc
 
-pub accepted-only : (l : List ℕ) (n : ℕ) → logVerdict most l ≡ Accepted n → AcceptedLog l n
+pub accepted-only : (l : List ℕ) (n : ℕ) → logVerdict maxEntries l ≡ Accepted n → AcceptedLog l n
 accepted-only l n h = by (seen l (Accepted n) h)
   where
     by : Seen l (Accepted n) → AcceptedLog l n
@@ -91,7 +91,7 @@ accepted-only l n h = by (seen l (Accepted n) h)
         let same = t .0 in
         record { begun = begun-log l ns w f full r g n (t .0); few = omega arith; whole = t .1 }
 
-pub accepted-if : (l : List ℕ) (n : ℕ) → AcceptedLog l n → logVerdict most l ≡ Accepted n
+pub accepted-if : (l : List ℕ) (n : ℕ) → AcceptedLog l n → logVerdict maxEntries l ≡ Accepted n
 accepted-if l n a =
     let x = a .begun in
     let s = started (x .numbers) (x .width) in
@@ -108,8 +108,8 @@ accepted-if l n a =
       says = accepts (a .whole) refl;
     } in
     let q = consume-only freshReader l true r (starts (x .numbers) (x .width) (fresh refl refl) refl (inl refl) (x .taken) (x .full) g) in
-    let same : Over (logVerdict most l) ≡ Over (Accepted (0 + length (x .calls))) = sym (whole-log l) ∙ sym (ap (λ (y : Consumed). y .outcome) q) in
-    let said : logVerdict most l ≡ Accepted (0 + length (x .calls)) = cc in
+    let same : Over (logVerdict maxEntries l) ≡ Over (Accepted (0 + length (x .calls))) = sym (whole-log l) ∙ sym (ap (λ (y : Consumed). y .outcome) q) in
+    let said : logVerdict maxEntries l ≡ Accepted (0 + length (x .calls)) = cc in
     said ∙ ap Accepted c
 
 -- ---- refused
@@ -120,7 +120,7 @@ record Refusing (s : Ledger) (m : List ℕ) (k : Cause) (p : ℕ) : Type 0 where
   u : ℕ
   got : readNumber m ≡ Value value u
   there : u + 256 ≤ length m
-  answered : auditing s (entryOf m value u .direction) (entryOf m value u .container) .answer ≡ answer.Refused k p
+  answered : auditing s (entryOf m value u .direction) (entryOf m value u .container) .answer ≡ verdict.Refused k p
 
 says-refused : {s : Ledger} {e q : ℕ} {m : List ℕ} {o : Outcome} (n : ℕ) (k : Cause) (p : ℕ) → Says s e q m true o → o ≡ Over (Refused n k p)
     → (e ≡ n) × (Framing k ⊎ Refusing s m k p)
@@ -129,7 +129,7 @@ says-refused n k p (long some full) h = (cc, inl (let c : TooLong ≡ k = cc in 
 says-refused n k p (broken some few enough g) h = (cc, inl (let c : BrokenRecord ≡ k = cc in subst Framing c broken-record))
 says-refused n k p (cut v u few end g short) h = (cc, inl (let c : BrokenRecord ≡ k = cc in subst Framing c broken-record))
 says-refused n k p (refuses v u c i few g q t) h =
-    let same : answer.Refused c i ≡ answer.Refused k p = cc in
+    let same : verdict.Refused c i ≡ verdict.Refused k p = cc in
     (cc, inr (record { value = v; u = u; got = g; there = q; answered = t ∙ same }))
 says-refused n k p (asks more few short g) h = clash cc
 
@@ -137,7 +137,7 @@ fault-framing : {l : List ℕ} {k : Cause} {p : ℕ} → ConfigurationFault l k 
 fault-framing (number-broken ns n f low e) = broken-record
 fault-framing (number-invalid ns n v u f low e bad) = invalid-state
 
-module _ (l : List ℕ) (n : ℕ) (k : Cause) (p : ℕ) (h : logVerdict most l ≡ Refused n k p) where
+module _ (l : List ℕ) (n : ℕ) (k : Cause) (p : ℕ) (h : logVerdict maxEntries l ≡ Refused n k p) where
   -- the configuration is refused, or entries are accepted before the refusal
   pub begun-before : (ConfigurationFault l k p × (n ≡ 0)) ⊎ BegunLog l n
   begun-before = by (seen l (Refused n k p) h)

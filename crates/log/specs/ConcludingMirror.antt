@@ -6,7 +6,7 @@ use lib.Dec.{leb, eqb}
 use Rattle.lists.specs.Pick.{pick}
 use Rattle.cause.specs.declared.Cause.the-variants.{BrokenRecord, TooLong, InvalidState}
 use Rattle.ledger.specs.Audit.{ledgerOk}
-use Rattle.log.specs.Stream.{most, stoppedAt, readFrom}
+use Rattle.log.specs.Stream.{maxEntries, stoppedAt, readFrom}
 use Rattle.log.specs.declared.log.LogVerdict.the-variants.{Accepted, Refused}
 use Rattle.log.specs.declared.log.Outcome.{Outcome}
 use Rattle.log.specs.declared.log.Outcome.the-variants.{More, Over}
@@ -18,15 +18,15 @@ use Rattle.log.specs.declared.log.Consumed.{Consumed}
 abbrev pub concluding : ℕ → ℕ → ℕ → Bool → Outcome
 concluding e o left ended =
     pick (eqb left 0) (pick ended (Over (Accepted e)) More)
-    (pick (leb most e) (Over (Refused e TooLong 0)) (pick (pick ended true (leb 261 left)) (Over (Refused e BrokenRecord o)) More))
+    (pick (leb maxEntries e) (Over (Refused e TooLong 0)) (pick (pick ended true (leb 261 left)) (Over (Refused e BrokenRecord o)) More))
 
 -- the numbers of a valid state
 abbrev pub countsOk : LogReader → Bool
 countsOk s =
     pick (eqb (s .offset) 0) (eqb (s .entries) 0)
-    (leb (s .entries) most && (leb (33 + 257 * s .entries) (s .offset) && leb (s .offset) (165 + 261 * s .entries)))
+    (leb (s .entries) maxEntries && (leb (33 + 257 * s .entries) (s .offset) && leb (s .offset) (165 + 261 * s .entries)))
 
 -- the entries from byte `at` of b on; a ledger that is not valid is 19
 abbrev pub readOn : LogReader → List ℕ → ℕ → Bool → Consumed
 readOn s b at ended =
-    pick (ledgerOk (s .ledger)) (readFrom (most - s .entries) ended b at s) (stoppedAt at s (Over (Refused (s .entries) InvalidState 0)))
+    pick (ledgerOk (s .ledger)) (readFrom (maxEntries - s .entries) ended b at s) (stoppedAt at s (Over (Refused (s .entries) InvalidState 0)))

@@ -12,16 +12,16 @@ use Rattle.record.specs.declared.number.Number.the-variants.{Broken, Value}
 use Rattle.pools.specs.PoolRules.{Exists}
 use Rattle.ledger.specs.Audit.{auditing}
 use Rattle.log.specs.Log.{receiverAt}
-use Rattle.log.specs.Stream.{most, stoppedAt, started}
+use Rattle.log.specs.Stream.{maxEntries, stoppedAt, started}
 use Rattle.ledger.specs.Calls.{Entry, AllAccepted, behind, entryOf, Enters, NoEntry}
 use Rattle.ledger.specs.ValidLedger.{ValidLedger}
 use Rattle.ledger.specs.declared.ledger.Ledger.{Ledger}
-use Rattle.ledger.specs.declared.ledger.Answer.the-variants as answer
 use Rattle.log.specs.declared.log.LogVerdict.the-variants.{Accepted, Refused}
 use Rattle.log.specs.declared.log.Outcome.{Outcome}
 use Rattle.log.specs.declared.log.Outcome.the-variants.{More, Over}
 use Rattle.log.specs.declared.log.LogReader.{LogReader}
 use Rattle.log.specs.declared.log.Consumed.{Consumed}
+use Rattle.cause.specs.declared.Verdict.the-variants as verdict
 
 -- ---- the configuration: "format, then for each direction N, push (0 or 1), 14 capacities"
 
@@ -57,16 +57,16 @@ pub data Says (s : Ledger) (e o : ℕ) (l : List ℕ) (ended : Bool) : Outcome �
   -- "accepted E"
   accepts : length l ≡ 0 → ended ≡ true → Says s e o l ended (Over (Accepted e))
   -- 18 | log over 16,777,215 entries | 0: "as soon as a byte of it is seen"
-  long : 0 < length l → most ≤ e → Says s e o l ended (Over (Refused e TooLong 0))
+  long : 0 < length l → maxEntries ≤ e → Says s e o l ended (Over (Refused e TooLong 0))
   -- 17 | broken number | byte offset of the log entry
-  broken : 0 < length l → e < most → Enough l ended → readNumber l ≡ Broken → Says s e o l ended (Over (Refused e BrokenRecord o))
+  broken : 0 < length l → e < maxEntries → Enough l ended → readNumber l ≡ Broken → Says s e o l ended (Over (Refused e BrokenRecord o))
   -- 17 | log entry cut short | byte offset of the log entry
-  cut : (v u : ℕ) → e < most → ended ≡ true → readNumber l ≡ Value v u → length l < u + 256 → Says s e o l ended (Over (Refused e BrokenRecord o))
+  cut : (v u : ℕ) → e < maxEntries → ended ≡ true → readNumber l ≡ Value v u → length l < u + 256 → Says s e o l ended (Over (Refused e BrokenRecord o))
   -- the audit refuses the entry
-  refuses : (v u : ℕ) (k : Cause) (p : ℕ) → e < most → readNumber l ≡ Value v u → u + 256 ≤ length l
-      → auditing s (entryOf l v u .direction) (entryOf l v u .container) .answer ≡ answer.Refused k p → Says s e o l ended (Over (Refused e k p))
+  refuses : (v u : ℕ) (k : Cause) (p : ℕ) → e < maxEntries → readNumber l ≡ Value v u → u + 256 ≤ length l
+      → auditing s (entryOf l v u .direction) (entryOf l v u .container) .answer ≡ verdict.Refused k p → Says s e o l ended (Over (Refused e k p))
   -- more bytes are asked for where the entry is not whole, and may yet be
-  asks : ended ≡ false → (e < most) ⊎ (length l ≡ 0) → length l < 261 → NoEntry l → Says s e o l ended More
+  asks : ended ≡ false → (e < maxEntries) ⊎ (length l ≡ 0) → length l < 261 → NoEntry l → Says s e o l ended More
 
 -- the state behind accepted entries of so many bytes: the old state of the entry that is refused behind them ("A refusal carries its cause
 -- inside the answer, and the old state")
@@ -78,7 +78,7 @@ pub record Goes (s : LogReader) (b : List ℕ) (n : ℕ) (ended : Bool) (r : Con
   pub calls : List Entry
   pub bytes : ℕ
   pub front : Enters (drop n b) calls bytes
-  pub few : s .entries + length calls ≤ most
+  pub few : s .entries + length calls ≤ maxEntries
   pub accepted : AllAccepted (s .ledger) calls
   pub reader : r .reader ≡ passed s calls bytes
   pub used : r .used ≡ n + bytes
@@ -87,7 +87,7 @@ pub record Goes (s : LogReader) (b : List ℕ) (n : ℕ) (ended : Bool) (r : Con
 -- a valid state: before the configuration nothing is accepted or used, and behind it there are as many bytes as it and the entries may have
 pub data ValidLog (s : LogReader) : Type 0 where
   fresh : s .offset ≡ 0 → s .entries ≡ 0 → ValidLog s
-  running : s .entries ≤ most → 33 + 257 * s .entries ≤ s .offset → s .offset ≤ 165 + 261 * s .entries → ValidLedger (s .ledger) → ValidLog s
+  running : s .entries ≤ maxEntries → 33 + 257 * s .entries ≤ s .offset → s .offset ≤ 165 + 261 * s .entries → ValidLedger (s .ledger) → ValidLog s
 
 -- a call with the bytes b
 pub data Consumes (s : LogReader) (b : List ℕ) (ended : Bool) : Consumed → Type 0 where

@@ -8,10 +8,10 @@ use Rattle.cause.specs.declared.Cause.the-variants.{BrokenRecord, TooLong, Inva
 use Rattle.ledger.specs.Audit.{auditing}
 use Rattle.ledger.specs.ValidLedger.{ValidConfiguration}
 use Rattle.log.specs.Log.{receiverAt, ledgerOf}
-use Rattle.log.specs.Stream.{most}
+use Rattle.log.specs.Stream.{maxEntries}
 use Rattle.ledger.specs.Calls.{Entry, AllAccepted, behind, Enters}
 use Rattle.log.specs.LogRules.{Numbers}
-use Rattle.ledger.specs.declared.ledger.Answer.the-variants.{Refused}
+use Rattle.cause.specs.declared.Verdict.the-variants.{Refused}
 
 -- a log begins with a valid configuration and n entries that the audit accepts one after the other
 pub record BegunLog (l : List ℕ) (n : ℕ) : Type 0 where
@@ -29,7 +29,7 @@ pub record BegunLog (l : List ℕ) (n : ℕ) : Type 0 where
 -- these are all of it
 pub record AcceptedLog (l : List ℕ) (n : ℕ) : Type 0 where
   pub begun : BegunLog l n
-  pub few : n ≤ most
+  pub few : n ≤ maxEntries
   pub whole : length (drop (begun .width + begun .bytes) l) ≡ 0
 
 -- the audit refuses the entry behind them

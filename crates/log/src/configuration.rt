@@ -1,19 +1,16 @@
 // The configuration of a log: its numbers, judged as they are read, and the ledger that they start.
 ghost use mathlib.Core.Path.{_≡_};
 ghost use Prim.Native.Nat.{_≤_, _<_};
-ghost use Rattle.log.specs.Log.{wrong, receiverAt, suits, valueOk, settingOf, configurationOf, ledgerOf};
+ghost use Rattle.log.specs.Log.{misconfigures, receiverAt, suits, valueOk, configurationAt, configurationOf, ledgerOf};
 use cause::Cause;
 use cause::Verdict;
 use ledger::Ledger;
+use pools::MAX_CAPACITY;
+use pools::MAX_PLANES;
 use pools::Receiver;
 use pools::take_row;
 use record::Number;
 use record::read_number;
-
-// The most planes of a receiver, and the largest capacity of a pool.
-const MOST_PLANES: u32 = 8;
-
-const LARGEST_CAPACITY: u32 = 1023;
 
 // The numbers of a configuration: the format, and those of each direction.
 const NUMBERS: usize = 33;
@@ -48,12 +45,12 @@ fn suits_receiver(receiver: Receiver, place: u32, value: u32) -> bool
         if value < 1 {
             return false;
         }
-        return value <= MOST_PLANES;
+        return value <= MAX_PLANES;
     }
     if place == 1 {
         return value < 2;
     }
-    if LARGEST_CAPACITY < value {
+    if MAX_CAPACITY < value {
         return false;
     }
     if value == 0 {
@@ -77,18 +74,18 @@ fn suits_place(numbers: [u32; NUMBERS], i: usize, value: u32) -> bool
 
 // No configuration.
 fn refuse_numbers(cause: Cause, place: u64) -> Configuration
-    ensures { λ r. ⌜ r ≡ configurationOf (wrong cause place) ⌝ }
+    ensures { λ r. ⌜ r ≡ configurationOf (misconfigures cause place) ⌝ }
 {
     Configuration {
         numbers: [0u32; NUMBERS],
         used: 0,
-        verdict: Verdict::Faulty(cause, place),
+        verdict: Verdict::Refused(cause, place),
     }
 }
 
 // The configuration at the front of the bytes: each number is judged for its form and then for its value.
 pub fn read_configuration(bytes: &[u8]) -> Configuration
-    ensures { λ r. ⌜ r ≡ configurationOf (settingOf (now (bytes .entry))) ⌝ }
+    ensures { λ r. ⌜ r ≡ configurationOf (configurationAt (now (bytes .entry))) ⌝ }
 {
     let mut numbers = [0u32; NUMBERS];
     let mut at = 0;
@@ -110,7 +107,7 @@ pub fn read_configuration(bytes: &[u8]) -> Configuration
     Configuration {
         numbers: numbers,
         used: at,
-        verdict: Verdict::Sound,
+        verdict: Verdict::Accepted,
     }
 }
 
@@ -120,6 +117,6 @@ pub fn start_ledger(numbers: [u32; NUMBERS]) -> Ledger
 {
     let first = take_receiver(numbers, 1);
     let second = take_receiver(numbers, 1 + RECEIVER_NUMBERS);
-    let opened = Ledger::fresh(numbers[0], first, second);
-    opened.ledger
+    let created = Ledger::fresh(numbers[0], first, second);
+    created.ledger
 }

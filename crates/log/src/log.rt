@@ -2,14 +2,13 @@
 ghost use mathlib.Core.Path.{_≡_};
 ghost use Prim.Native.Nat.{_+_, _*_, _≤_};
 ghost use lib.ListN.{length};
-ghost use Rattle.log.specs.Log.{settingOf};
-ghost use Rattle.log.specs.Stream.{most, stoppedAt, startBy, beginning, consuming, freshReader};
+ghost use Rattle.log.specs.Log.{configurationAt};
+ghost use Rattle.log.specs.Stream.{maxEntries, stoppedAt, startBy, beginning, consuming, freshReader};
 ghost use Rattle.log.specs.ConcludingMirror.{concluding, countsOk, readOn};
 use crate::configuration::read_configuration;
 use crate::configuration::start_ledger;
 use cause::Cause;
 use cause::Verdict;
-use ledger::Answer;
 use ledger::Ledger;
 
 // The verdict on a log.
@@ -45,7 +44,7 @@ pub struct Consumed {
 }
 
 // The most entries of a log.
-const MOST: u32 = 16777215;
+const MAX_ENTRIES: u32 = 16777215;
 
 // The bytes of a configuration, and those of an entry.
 const SHORTEST_CONFIGURATION: u64 = 33;
@@ -77,7 +76,7 @@ fn conclude(entries: u32, offset: u64, left: usize, ended: bool) -> Outcome
         }
         return Outcome::More;
     }
-    if MOST <= entries {
+    if MAX_ENTRIES <= entries {
         return refuse_log(entries, Cause::TooLong, 0);
     }
     if ended {
@@ -123,7 +122,7 @@ impl LogReader {
         if offset == 0 {
             return entries == 0;
         }
-        if MOST < entries {
+        if MAX_ENTRIES < entries {
             return false;
         }
         if offset < SHORTEST_CONFIGURATION + SHORTEST_ENTRY * (entries as u64) {
@@ -134,11 +133,11 @@ impl LogReader {
 
     // Audits the entries from byte `from` on.
     fn read_entries(self, bytes: &[u8], from: usize, ended: bool) -> Consumed
-        requires { ⌜ (from ≤ length (now bytes)) × (self .entries ≤ most) × (self .offset ≤ 165 + 261 * self .entries) ⌝ }
+        requires { ⌜ (from ≤ length (now bytes)) × (self .entries ≤ maxEntries) × (self .offset ≤ 165 + 261 * self .entries) ⌝ }
         ensures { λ r. ⌜ r ≡ readOn self (now (bytes .entry)) from ended ⌝ }
     {
         let run = self.ledger
-            .audit_entries(&bytes[from..], MOST - self.entries);
+            .audit_entries(&bytes[from..], MAX_ENTRIES - self.entries);
         let ledger = run.ledger;
         let answer = run.answer;
         let at = from + run.used;
@@ -150,12 +149,12 @@ impl LogReader {
             offset: offset,
         };
         match answer {
-            Answer::Refused { cause, place } => stop_at(
+            Verdict::Refused(cause, place) => stop_at(
                 at,
                 reader,
                 refuse_log(entries, cause, place),
             ),
-            Answer::Accepted => stop_at(
+            Verdict::Accepted => stop_at(
                 at,
                 reader,
                 conclude(entries, offset, bytes.len() - at, ended),
@@ -165,13 +164,13 @@ impl LogReader {
 
     // Reads the configuration and judges the entries behind it.
     fn configure(self, bytes: &[u8], ended: bool) -> Consumed
-        ensures { λ r. ⌜ r ≡ startBy self (now (bytes .entry)) ended (settingOf (now (bytes .entry))) ⌝ }
+        ensures { λ r. ⌜ r ≡ startBy self (now (bytes .entry)) ended (configurationAt (now (bytes .entry))) ⌝ }
     {
         let configuration = read_configuration(bytes);
         let verdict = configuration.verdict;
         match verdict {
-            Verdict::Faulty(cause, place) => stop_at(0, self, refuse_log(0, cause, place)),
-            Verdict::Sound => {
+            Verdict::Refused(cause, place) => stop_at(0, self, refuse_log(0, cause, place)),
+            Verdict::Accepted => {
                 let numbers = configuration.numbers;
                 let used = configuration.used;
                 let ledger = start_ledger(numbers);

@@ -14,39 +14,58 @@ use Rattle.message.specs.declared.charge.Charges.the-variants.{Free, One
 
 -- byte 0 bit 4 is SharedCrdt, bits 5-7 are ResPlane
 abbrev pub sharedCrdt : ℕ → Bool
-sharedCrdt first = eqb (first / 16 % 2) 1
+sharedCrdt byte0 = eqb (byte0 / 16 % 2) 1
 
 abbrev pub resPlane : ℕ → ℕ
-resPlane first = first / 32
+resPlane byte0 = byte0 / 32
 
--- pool 0 is shared REQ, 1 to 8 are REQ planes 0 to 7
+-- the pools that a rule names: shared REQ, RSP, SNP, shared DAT, DAT of DataS and DataL, DAT of push data; 1 to 8 are REQ planes 0 to 7
+abbrev pub sharedReq : ℕ
+sharedReq = 0
+
+abbrev pub rspPool : ℕ
+rspPool = 9
+
+abbrev pub snpPool : ℕ
+snpPool = 10
+
+abbrev pub sharedDat : ℕ
+sharedDat = 11
+
+abbrev pub dataDat : ℕ
+dataDat = 12
+
+abbrev pub pushDat : ℕ
+pushDat = 13
+
+-- the pool of a REQ charge: the shared one, or that of the plane
 abbrev pub reqPool : ℕ → ℕ
-reqPool first = pick (sharedCrdt first) 0 (1 + resPlane first)
+reqPool byte0 = pick (sharedCrdt byte0) sharedReq (1 + resPlane byte0)
 
--- pool 11 is shared DAT, 12 is for DataS and DataL
+-- the pool of a DAT charge of DataS or DataL
 abbrev pub datPool : ℕ → ℕ
-datPool first = pick (sharedCrdt first) 11 12
+datPool byte0 = pick (sharedCrdt byte0) sharedDat dataDat
 
--- pool 13 is for push data; byte 1 bit 0 says that shared DAT pays
+-- the pool of a DAT charge of push data: byte 1 bit 0 says that shared DAT pays
 abbrev pub pushPool : ℕ → ℕ
-pushPool second = pick (eqb (second % 2) 1) 11 13
+pushPool byte1 = pick (eqb (byte1 % 2) 1) sharedDat pushDat
 
 -- one credit of a pool
 abbrev pub oneOf : ℕ → Charge
 oneOf p = record { pool = p; amount = 1 }
 
--- what a class pays, by bytes 0 and 1; pool 9 is RSP and 10 is SNP
+-- what a class pays, by bytes 0 and 1
 abbrev pub paidBy : Class → ℕ → ℕ → Charges
-paidBy Unknown first second = Free
-paidBy Request first second = One (oneOf (reqPool first))
-paidBy Response first second = One (oneOf 9)
-paidBy Snoop first second = One (oneOf 10)
-paidBy Data first second = One (oneOf (datPool first))
-paidBy RequestData first second = Two (oneOf (reqPool first)) (oneOf (pushPool second))
-paidBy Misc first second = Free
+paidBy Unknown byte0 byte1 = Free
+paidBy Request byte0 byte1 = One (oneOf (reqPool byte0))
+paidBy Response byte0 byte1 = One (oneOf rspPool)
+paidBy Snoop byte0 byte1 = One (oneOf snpPool)
+paidBy Data byte0 byte1 = One (oneOf (datPool byte0))
+paidBy RequestData byte0 byte1 = Two (oneOf (reqPool byte0)) (oneOf (pushPool byte1))
+paidBy Misc byte0 byte1 = Free
 
 abbrev pub chargesBy : ℕ → ℕ → ℕ → Charges
-chargesBy t first second = paidBy (classOf t) first second
+chargesBy t byte0 byte1 = paidBy (classOf t) byte0 byte1
 
 -- the charges as a list, REQ before DAT
 abbrev pub listed : Charges → List Charge

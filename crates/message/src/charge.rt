@@ -1,6 +1,13 @@
 // What a message pays.
 ghost use mathlib.Core.Path.{_≡_};
 ghost use Rattle.message.specs.Charges.{reqPool, datPool, pushPool, chargesBy};
+use crate::codes::DATA_DAT;
+use crate::codes::PUSH_DAT;
+use crate::codes::REQ_PLANE_0;
+use crate::codes::RSP;
+use crate::codes::SHARED_DAT;
+use crate::codes::SHARED_REQ;
+use crate::codes::SNP;
 use crate::heads::Class;
 use crate::heads::classify_message;
 
@@ -18,62 +25,65 @@ pub enum Charges {
 }
 
 // The pool of a REQ charge, by byte 0.
-pub fn choose_req(first: u8) -> u8
-    ensures { λ r. ⌜ r ≡ reqPool first ⌝ }
+pub fn choose_req(byte0: u8) -> u8
+    ensures { λ r. ⌜ r ≡ reqPool byte0 ⌝ }
 {
-    if first / 16 % 2 == 1 {
-        return 0;
+    if byte0 / 16 % 2 == 1 {
+        return SHARED_REQ;
     }
-    1 + first / 32
+    REQ_PLANE_0 + byte0 / 32
 }
 
 // The pool of a DAT charge of DataS or DataL, by byte 0.
-pub fn choose_dat(first: u8) -> u8
-    ensures { λ r. ⌜ r ≡ datPool first ⌝ }
+pub fn choose_dat(byte0: u8) -> u8
+    ensures { λ r. ⌜ r ≡ datPool byte0 ⌝ }
 {
-    if first / 16 % 2 == 1 {
-        return 11;
+    if byte0 / 16 % 2 == 1 {
+        return SHARED_DAT;
     }
-    12
+    DATA_DAT
 }
 
 // The pool of a DAT charge of push data, by byte 1.
-pub fn choose_push(second: u8) -> u8
-    ensures { λ r. ⌜ r ≡ pushPool second ⌝ }
+pub fn choose_push(byte1: u8) -> u8
+    ensures { λ r. ⌜ r ≡ pushPool byte1 ⌝ }
 {
-    if second % 2 == 1 {
-        return 11;
+    if byte1 % 2 == 1 {
+        return SHARED_DAT;
     }
-    13
+    PUSH_DAT
 }
 
 // The charges of a message of this type, by its bytes 0 and 1.
-pub fn charge_message(kind: u8, first: u8, second: u8) -> Charges
-    ensures { λ r. ⌜ r ≡ chargesBy kind first second ⌝ }
+pub fn charge_message(msgtype: u8, byte0: u8, byte1: u8) -> Charges
+    ensures { λ r. ⌜ r ≡ chargesBy msgtype byte0 byte1 ⌝ }
 {
-    let class = classify_message(kind);
+    let class = classify_message(msgtype);
     match class {
         Class::Unknown => Charges::Free,
         Class::Request => Charges::One(Charge {
-            pool: choose_req(first),
+            pool: choose_req(byte0),
             amount: 1,
         }),
-        Class::Response => Charges::One(Charge { pool: 9, amount: 1 }),
+        Class::Response => Charges::One(Charge {
+            pool: RSP,
+            amount: 1,
+        }),
         Class::Snoop => Charges::One(Charge {
-            pool: 10,
+            pool: SNP,
             amount: 1,
         }),
         Class::Data => Charges::One(Charge {
-            pool: choose_dat(first),
+            pool: choose_dat(byte0),
             amount: 1,
         }),
         Class::RequestData => Charges::Two(
             Charge {
-                pool: choose_req(first),
+                pool: choose_req(byte0),
                 amount: 1,
             },
             Charge {
-                pool: choose_push(second),
+                pool: choose_push(byte1),
                 amount: 1,
             },
         ),

@@ -1,6 +1,7 @@
 // Message heads: what type and op select, which heads are right, where a message may start and what it pays (document 01,
 // "Message heads").
 mod charge;
+mod codes;
 mod heads;
 mod place;
 
@@ -10,6 +11,22 @@ pub use charge::charge_message;
 pub use charge::choose_dat;
 pub use charge::choose_push;
 pub use charge::choose_req;
+pub use codes::ACTIVATION;
+pub use codes::CRDT_GRANT;
+pub use codes::DATA_DAT;
+pub use codes::DATA_L;
+pub use codes::DATA_S;
+pub use codes::PUSH_DAT;
+pub use codes::REQ_PLANE_0;
+pub use codes::REQ_S;
+pub use codes::RESP;
+pub use codes::RSP;
+pub use codes::SHARED_DAT;
+pub use codes::SHARED_REQ;
+pub use codes::SNOOP;
+pub use codes::SNP;
+pub use codes::WR_REQ_DATA_L;
+pub use codes::WR_REQ_DATA_S;
 pub use heads::Class;
 pub use heads::classify_message;
 pub use heads::is_message;

@@ -14,9 +14,9 @@ use Rattle.lists.specs.Parts.{IsBytes, joinAll}
 use Rattle.lists.proofs.Tests.{cases, and-left, and-right, and-both}
 use Rattle.cause.specs.Checks.{firstFault}
 use Rattle.cause.specs.declared.Verdict.{Verdict}
-use Rattle.cause.specs.declared.Verdict.the-variants.{Sound}
+use Rattle.cause.specs.declared.Verdict.the-variants.{Accepted}
 use Rattle.cause.specs.declared.Cause.the-variants.{InvalidState}
-use Rattle.cause.proofs.CheckLaws.{both-sound}
+use Rattle.cause.proofs.CheckLaws.{both-accepted}
 use Rattle.container.specs.Layout.{Format, formatOf}
 use Rattle.message.proofs.HeadLaws.{is-message, message-size, size-most}
 use Rattle.record.specs.Number.{number, readNumber}
@@ -31,7 +31,7 @@ use Rattle.writer.proofs.Simulation.{idle}
 use Rattle.writer.proofs.StateCases.{fill-callable}
 use Rattle.round_trip.proofs.RoundTrip.{tail-of, list-left}
 use Rattle.round_trip.proofs.Return.{list-returned}
-use Rattle.round_trip.proofs.Bound.{Going, going-first, going-more, going-fills, going-none, one-more, plane-grants-nothing, call-sound}
+use Rattle.round_trip.proofs.Bound.{Going, going-first, going-more, going-fills, going-none, one-more, plane-grants-nothing, call-accepted}
 use Rattle.pack.specs.Packing.{containersOf, mostContainers, outputOf, listOutput, outputBehind, packOutput, CarriesAll}
 
 -- ---- containers one by one
@@ -175,16 +175,16 @@ records-few (m ∷ ms) a =
 
 -- ---- the output
 
-pub list-sound : (f : ℕ) (l : List ℕ) → fillFault (writerWith f []) l zeroGrant 256 ≡ Sound → listFault l ≡ Sound
+pub list-checks-accepted : (f : ℕ) (l : List ℕ) → fillFault (writerWith f []) l zeroGrant 256 ≡ Accepted → listFault l ≡ Accepted
 unfolding fillFault
-list-sound f l e = both-sound (firstFault (callChecks (writerWith f []) (length l) zeroGrant 256)) (listFault l) e .1
+list-checks-accepted f l e = both-accepted (firstFault (callChecks (writerWith f []) (length l) zeroGrant 256)) (listFault l) e .1
 
 -- a list that the first fill accepts
-pub list-carried : (f : ℕ) (l : List ℕ) → IsBytes l → f < 2 → fillFault (writerWith f []) l zeroGrant 256 ≡ Sound
+pub list-carried : (f : ℕ) (l : List ℕ) → IsBytes l → f < 2 → fillFault (writerWith f []) l zeroGrant 256 ≡ Accepted
     → CarriesAll f l (listOutput f l)
 list-carried f l hb small e =
     let short = fill-callable (writerWith f []) l zeroGrant 256 e .short in
-    let ms = list-left l hb (list-sound f l e) in
+    let ms = list-left l hb (list-checks-accepted f l e) in
     let count = ap length (ms .1 .records) in
     let few : length (ms .0) ≤ mostContainers = omega (arith, records-few (ms .0) (ms .1 .all)) in
     let r = goes f small l hb short mostContainers (length (ms .0)) 0 (writerWith f []) [] [] (going-first f l (ms .0) (ms .1)) refl none
@@ -201,7 +201,7 @@ pub messages-carried : (f : ℕ) (ms : List (List ℕ)) → f < 2 → IsBytes (r
 unfolding packOutput
 messages-carried f ms small hb a short =
     let l = recordsOf ms in
-    let sound = call-sound f zeroGrant [] [] l ms small (omega arith) refl idle (record { within = omega arith; records = refl; all = a })
+    let sound = call-accepted f zeroGrant [] [] l ms small (omega arith) refl idle (record { within = omega arith; records = refl; all = a })
     hb short 256 refl in
     let out : outputBehind (number f ++ l) (readNumber (number f ++ l)) ≡ listOutput f l =
     ap (outputBehind (number f ++ l)) (written-read f l (omega arith))

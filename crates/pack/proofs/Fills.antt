@@ -16,9 +16,9 @@ use Rattle.lists.specs.Parts.{put, joinAll, IsBytes}
 use Rattle.lists.proofs.Tests.{and-right}
 use Rattle.lists.proofs.PartLaws.{rest-is, length-zero, length-part, length-put, put-middle}
 use Rattle.lists.proofs.PutLaws.{put-none, put-more}
-use Rattle.cause.specs.Checks.{whenSound}
+use Rattle.cause.specs.Checks.{whenAccepted}
 use Rattle.cause.specs.declared.Verdict.{Verdict}
-use Rattle.cause.specs.declared.Verdict.the-variants.{Sound, Faulty}
+use Rattle.cause.specs.declared.Verdict.the-variants.{Accepted, Refused}
 use Rattle.cause.specs.declared.Cause.{Cause}
 use Rattle.container.specs.Layout.{Format, formatOf}
 use Rattle.text.specs.Lines.{refusalLine, answerOf as textAnswer, roomOf}
@@ -31,18 +31,18 @@ use Rattle.writer.specs.declared.writer.Step.{Step}
 use Rattle.writer.specs.declared.writer.Answer.{Answer}
 use Rattle.writer.specs.declared.writer.Answer.the-variants as answer
 use Rattle.writer.proofs.StateCases.{fill-callable}
-use Rattle.writer.proofs.AnswerLaws.{filling-faulty, filling-sound}
+use Rattle.writer.proofs.AnswerLaws.{fill-answer-refused, fill-answer-accepted}
 use Rattle.round_trip.proofs.RoundTrip.{tail-of, list-left, box-length}
 use Rattle.writer.proofs.Simulation.{idle, Left}
-use Rattle.round_trip.proofs.Bound.{Going, going-first, going-more, going-fills, left-here, call-sound}
-use Rattle.pack.specs.Packing.{containersOf, mostContainers, mostOutput, outputOf, listOutput}
-use Rattle.pack.proofs.Containers.{containers-none, containers-more, containers-out, list-sound}
+use Rattle.round_trip.proofs.Bound.{Going, going-first, going-more, going-fills, left-here, call-accepted}
+use Rattle.pack.specs.Packing.{containersOf, mostContainers, maxOutput, outputOf, listOutput}
+use Rattle.pack.proofs.Containers.{containers-none, containers-more, containers-out, list-checks-accepted}
 
 -- an answer says one thing
-same-used : (a : Answer) (u v : ℕ) → a ≡ answer.Filled u → a ≡ answer.Filled v → u ≡ v
+same-used : (a : Answer) (u v : ℕ) → a ≡ answer.Accepted u → a ≡ answer.Accepted v → u ≡ v
 same-used a u v p q = cc
 
-never-both : (a : Answer) (u : ℕ) (c : Cause) (p : ℕ) → a ≡ answer.Filled u → a ≡ answer.Refused c p → ⊥
+never-both : (a : Answer) (u : ℕ) (c : Cause) (p : ℕ) → a ≡ answer.Accepted u → a ≡ answer.Refused c p → ⊥
 never-both a u c p e q = let z : _≡_ {A = ℕ} 0 1 = cc in omega arith
 
 -- ---- a fill behind an accepted one
@@ -57,10 +57,10 @@ found f l = fillFault (writerWith f []) l zeroGrant 256
 
 module _ (f : ℕ) (small : f < 2) (l : List ℕ) (hb : IsBytes l) where
   -- a list that the first fill accepts
-  starts : found f l ≡ Sound → Under f l (writerWith f []) 0
-  starts e = let k = list-left l hb (list-sound f l e) in (length (k .0), going-first f l (k .0) (k .1))
+  starts : found f l ≡ Accepted → Under f l (writerWith f []) 0
+  starts e = let k = list-left l hb (list-checks-accepted f l e) in (length (k .0), going-first f l (k .0) (k .1))
 
-  short : found f l ≡ Sound → length l ≤ 4096
+  short : found f l ≡ Accepted → length l ≤ 4096
   short e = fill-callable (writerWith f []) l zeroGrant 256 e .short
 
   module _ (few : length l ≤ 4096) (w : Writer) (at : ℕ) (g : Under f l w at) where
@@ -100,7 +100,7 @@ module _ (f : ℕ) (small : f < 2) (l : List ℕ) (hb : IsBytes l) where
 -- ---- before the first fill, or behind one of those that follow an accepted first one
 
 abbrev Standing : ℕ → List ℕ → Writer → ℕ → ℕ → Type 0
-Standing f l w at to = ((at ≡ 0) × (w ≡ writerWith f []) × (to ≡ 0)) ⊎ ((found f l ≡ Sound) × Under f l w at)
+Standing f l w at to = ((at ≡ 0) × (w ≡ writerWith f []) × (to ≡ 0)) ⊎ ((found f l ≡ Accepted) × Under f l w at)
 
 -- the containers filled so far stand at the front of the room d, over d₀, in `to` bytes; `left` more may follow
 pub record Packed (f : ℕ) (l d₀ d : List ℕ) (w : Writer) (at to : ℕ) : Type 0 where
@@ -108,7 +108,7 @@ pub record Packed (f : ℕ) (l d₀ d : List ℕ) (w : Writer) (at to : ℕ) : T
   pub left : ℕ
   pub within : at ≤ length l
   pub reached : length text ≡ to
-  pub bound : to + 256 * left ≡ mostOutput
+  pub bound : to + 256 * left ≡ maxOutput
   pub room : d ≡ put 0 text d₀
   pub long : length d ≡ length d₀
   pub owed : w .len ≡ length (tailOf w)
@@ -134,12 +134,12 @@ packed-none f l d w e = record {
 pub record Done (f : ℕ) (l d₀ d : List ℕ) (n : ℕ) : Type 0 where
   pub end : n ≡ length (listOutput f l)
   pub room : d ≡ put 0 (listOutput f l) d₀
-  pub within : n ≤ mostOutput
+  pub within : n ≤ maxOutput
   pub long : length d ≡ length d₀
 
 module _ (f : ℕ) (l d₀ d : List ℕ) (w : Writer) (at to : ℕ) (h : Packed f l d₀ d w at to) where
   -- where no container is to come
-  ended : containersOf (h .left) (formatOf f) (tailOf w) (drop at l) ≡ [] → found f l ≡ Sound → Done f l d₀ d to
+  ended : containersOf (h .left) (formatOf f) (tailOf w) (drop at l) ≡ [] → found f l ≡ Accepted → Done f l d₀ d to
   ended e s =
       let all : listOutput f l ≡ h .text =
       ap (λ (v : Verdict). outputOf v (containersOf mostContainers (formatOf f) [] l)) s
@@ -152,7 +152,7 @@ module _ (f : ℕ) (l d₀ d : List ℕ) (w : Writer) (at to : ℕ) (h : Packed 
         long = h .long;
       }
 
-  pub packed-out : mostOutput ≤ to → Done f l d₀ d to
+  pub packed-out : maxOutput ≤ to → Done f l d₀ d to
   packed-out b =
       let z : h .left ≡ 0 = omega (arith, h .bound) in
       ended (ap (λ (k : ℕ). containersOf k (formatOf f) (tailOf w) (drop at l)) z ∙ containers-out (formatOf f) (tailOf w) (drop at l))
@@ -167,21 +167,21 @@ module _ (f : ℕ) (l d₀ d : List ℕ) (w : Writer) (at to : ℕ) (h : Packed 
         ∙ test in
         let none : length l - at ≡ 0 = eqb-true (length l - at) 0 (and-right (eqb (w .len) 0) (eqb (length l - at) 0) test) in
         ended (containers-none (h .left) (formatOf f) (tailOf w) (drop at l) owed)
-        (⊎-elim (λ a. let z = a .0 in empty-sound (length-zero l (omega arith))) (λ b. b .0) (h .standing))
+        (⊎-elim (λ a. let z = a .0 in empty-accepted (length-zero l (omega arith))) (λ b. b .0) (h .standing))
       where
-        empty-sound : l ≡ [] → found f l ≡ Sound
-        empty-sound e =
+        empty-accepted : l ≡ [] → found f l ≡ Accepted
+        empty-accepted e =
             let left : Left l 0 [] = record { within = omega arith; records = e; all = tt } in
-            call-sound f zeroGrant [] [] l [] small (omega arith) refl idle left hb (omega (arith, ap length e)) 256 refl
+            call-accepted f zeroGrant [] [] l [] small (omega arith) refl idle left hb (omega (arith, ap length e)) 256 refl
 
     -- one turn, before the list is used up
-    module _ (big : mostOutput ≤ length d₀) (few : to < mostOutput) (r : Step) (d′ : List ℕ)
+    module _ (big : maxOutput ≤ length d₀) (few : to < maxOutput) (r : Step) (d′ : List ℕ)
         (er : r ≡ filling w (take (length l - at) (drop at l)) zeroGrant (length (take ((to + 256) - to) (drop to d))))
         (ed : d′ ≡ fillBytes w (take (length l - at) (drop at l)) zeroGrant (take ((to + 256) - to) (drop to d))) where
       abbrev part : List ℕ
       part = take ((to + 256) - to) (drop to d)
 
-      fits : to + 256 ≤ mostOutput
+      fits : to + 256 ≤ maxOutput
       fits = let b = h .bound in omega arith
 
       long-part : length part ≡ 256
@@ -210,9 +210,9 @@ module _ (f : ℕ) (l d₀ d : List ℕ) (w : Writer) (at to : ℕ) (h : Packed 
       -- ---- a refusal
 
       refused-first : (c : Cause) (p : ℕ) → r .answer ≡ answer.Refused c p
-          → (found f l ≡ Faulty c p) × (at ≡ 0) × (w ≡ writerWith f []) × (to ≡ 0)
+          → (found f l ≡ Refused c p) × (at ≡ 0) × (w ≡ writerWith f []) × (to ≡ 0)
       refused-first c p q =
-          ⊎-elim (λ a. (filling-faulty (found f l) _ c p (answered (a .0) (a .1) ∙ q), a .0, a .1, a .2))
+          ⊎-elim (λ a. (fill-answer-refused (found f l) _ c p (answered (a .0) (a .1) ∙ q), a .0, a .1, a .2))
           (λ b. absurd (never-both (r .answer) _ c p
           (ap (λ (x : Step). x .answer) step ∙ call f small l hb (short f small l hb (b .0)) w at (b .1) .answer) q)) (h .standing)
 
@@ -221,11 +221,11 @@ module _ (f : ℕ) (l d₀ d : List ℕ) (w : Writer) (at to : ℕ) (h : Packed 
       unfolding fillBytes
       unchanged c p q =
           let a = refused-first c p q in
-          let v : fillFault w (drop at l) zeroGrant (length part) ≡ Faulty c p =
+          let v : fillFault w (drop at l) zeroGrant (length part) ≡ Refused c p =
           ap (fillFault w (drop at l) zeroGrant) long-part ∙ ap (λ (x : Writer). fillFault x (drop at l) zeroGrant 256) (a .2) ∙ ap
           (λ (k : ℕ). fillFault (writerWith f []) (drop k l) zeroGrant 256) (a .1) ∙ a .0 in
           let same : d′ ≡ part = became ∙ ap
-          (λ (x : Verdict). whenSound x (filled (formatOf (w .format)) zeroGrant (tailOf w) (drop at l)) part) v in
+          (λ (x : Verdict). whenAccepted x (filled (formatOf (w .format)) zeroGrant (tailOf w) (drop at l)) part) v in
           let none : h .text ≡ [] = length-zero (h .text) (h .reached ∙ a .3) in
           ap (putMid to ((to + 256) - to) d) same ∙ put-same to ((to + 256) - to) d ∙ h .room ∙ ap (λ (x : List ℕ). put 0 x d₀) none
           ∙ put-none 0 d₀
@@ -251,10 +251,10 @@ module _ (f : ℕ) (l d₀ d : List ℕ) (w : Writer) (at to : ℕ) (h : Packed 
 
       -- ---- a container
 
-      module _ (u : ℕ) (q : r .answer ≡ answer.Filled u) where
-        going : (found f l ≡ Sound) × Under f l w at
+      module _ (u : ℕ) (q : r .answer ≡ answer.Accepted u) where
+        going : (found f l ≡ Accepted) × Under f l w at
         going =
-            ⊎-elim (λ a. let e = filling-sound (found f l) _ u (answered (a .0) (a .1) ∙ q) .0 in
+            ⊎-elim (λ a. let e = fill-answer-accepted (found f l) _ u (answered (a .0) (a .1) ∙ q) .0 in
             (e, rw (a .0, a .1) (starts f small l hb e)))
             (λ b. b) (h .standing)
 

@@ -12,7 +12,7 @@ use borrow.Author.Tests.{ltb-true, lt-ltb, lt-leb}
 use Rattle.lists.proofs.Tests.{cases}
 use Rattle.cause.specs.declared.Cause.the-variants.{TooLong}
 use Rattle.cause.specs.declared.Verdict.{Verdict}
-use Rattle.cause.specs.declared.Verdict.the-variants.{Faulty}
+use Rattle.cause.specs.declared.Verdict.the-variants.{Refused}
 use Rattle.container.specs.Layout.{formatOf}
 use Rattle.record.specs.Number.{readNumber}
 use Rattle.record.specs.declared.number.Number.{Number}
@@ -23,7 +23,7 @@ use Rattle.writer.specs.Filling.{writerWith, callChecks, fillFault}
 use Rattle.round_trip.specs.Calls.{zeroGrant}
 use Rattle.pack.specs.Packing.{containersOf, mostContainers, outputOf, listOutput, outputBehind, packOutput}
 
-long-fault : (f : ℕ) (l : List ℕ) → f < 2 → 4096 < length l → fillFault (writerWith f []) l zeroGrant 256 ≡ Faulty TooLong 0
+long-fault : (f : ℕ) (l : List ℕ) → f < 2 → 4096 < length l → fillFault (writerWith f []) l zeroGrant 256 ≡ Refused TooLong 0
 unfolding fillFault callChecks
 long-fault f l small h = rw (lt-ltb f 2 small, lt-leb (length l) 4096 h)
 

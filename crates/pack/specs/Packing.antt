@@ -8,7 +8,7 @@ use lib.Dec.{eqb, ltb}
 use Rattle.lists.specs.Pick.{pick}
 use Rattle.lists.specs.Parts.{put, joinAll}
 use Rattle.cause.specs.declared.Verdict.{Verdict}
-use Rattle.cause.specs.declared.Verdict.the-variants.{Sound, Faulty}
+use Rattle.cause.specs.declared.Verdict.the-variants.{Accepted, Refused}
 use Rattle.cause.specs.declared.Cause.the-variants.{BrokenRecord, InvalidState}
 use Rattle.container.specs.Layout.{Format, formatOf}
 use Rattle.record.specs.Number.{readNumber}
@@ -31,13 +31,13 @@ abbrev pub mostContainers : ℕ
 mostContainers = 384
 
 -- their bytes
-abbrev pub mostOutput : ℕ
-mostOutput = 256 * mostContainers
+abbrev pub maxOutput : ℕ
+maxOutput = 256 * mostContainers
 
 -- containers, or the line of a refusal, by a verdict
 abbrev pub outputOf : Verdict → List (List ℕ) → List ℕ
-outputOf Sound cs = joinAll cs
-outputOf (Faulty c p) cs = refusalLine c p
+outputOf Accepted cs = joinAll cs
+outputOf (Refused c p) cs = refusalLine c p
 
 -- a list of a format, by what the first fill finds of it: 18, then 17
 abbrev pub listOutput : ℕ → List ℕ → List ℕ
@@ -53,10 +53,10 @@ packOutput l = outputBehind l (readNumber l)
 
 -- what is answered, and the room afterwards: the output at its front; a room that not every output fits is left as it was
 abbrev pub packLength : List ℕ → ℕ → ℕ
-packLength l n = pick (ltb n mostOutput) 0 (length (packOutput l))
+packLength l n = pick (ltb n maxOutput) 0 (length (packOutput l))
 
 abbrev pub packRoom : List ℕ → List ℕ → List ℕ
-packRoom l room = pick (ltb (length room) mostOutput) room (put 0 (packOutput l) room)
+packRoom l room = pick (ltb (length room) maxOutput) room (put 0 (packOutput l) room)
 
 -- an output that carries a list: fills that use the list up and owe no tail, and a new reader hands out all its messages
 pub record CarriesAll (f : ℕ) (l out : List ℕ) : Type 0 where

@@ -6,11 +6,11 @@ ghost use Rattle.pack.specs.Inputs.{Loaded};
 use input::Refill;
 use input::read_more;
 use libc::STDOUT_FILENO;
-use packing::MOST_OUTPUT;
+use packing::MAX_OUTPUT;
 use packing::pack_into;
 
 // A number, and one byte more than the longest list.
-const MOST_INPUT: usize = 4102;
+const MAX_INPUT: usize = 4102;
 
 // What was read: so many bytes, or a read has failed.
 pub enum Input {
@@ -38,12 +38,12 @@ fn read_all(space: &mut [u8]) -> Input
 }
 
 fn main() {
-    let mut space = [0u8; MOST_INPUT];
+    let mut space = [0u8; MAX_INPUT];
     let input = read_all(&mut space);
     match input {
         Input::Failed => os::fail(b"pack: standard input"),
         Input::Bytes(have) => {
-            let mut room = [0u8; MOST_OUTPUT];
+            let mut room = [0u8; MAX_OUTPUT];
             let n = pack_into(&space[0..have], &mut room);
             if !io::write_all(STDOUT_FILENO, &room[0..n]) {
                 os::fail(b"pack: standard output");

@@ -8,9 +8,10 @@ ghost use lib.Dec.{eqb};
 ghost use Rattle.lists.specs.Parts.{put};
 ghost use Rattle.writer.specs.Filling.{writerWith, filling, fillBytes};
 ghost use Rattle.round_trip.specs.Calls.{zeroGrant};
-ghost use Rattle.pack.specs.Packing.{mostOutput, listOutput, packLength, packRoom};
+ghost use Rattle.pack.specs.Packing.{maxOutput, listOutput, packLength, packRoom};
 use cause::Cause;
 use cause::Verdict;
+use container::CONTAINER;
 use container::Grant;
 use record::Number;
 use record::read_number;
@@ -19,11 +20,8 @@ use writer::Answer;
 use writer::Step;
 use writer::Writer;
 
-// The bytes of a container.
-const CONTAINER: usize = 256;
-
 // The most bytes of an output: 384 containers.
-pub const MOST_OUTPUT: usize = 98304;
+pub const MAX_OUTPUT: usize = 98304;
 
 // Whether all containers are written: no byte of a tail is owed, and none of the list is left.
 fn is_done(owed: usize, left: usize) -> bool
@@ -54,15 +52,15 @@ fn fill_container(writer: Writer, list: &[u8], container: &mut [u8]) -> Step
 // Writes the containers of a list at the front of the room, or the line of its refusal, which only the first fill can give; answers how
 // many bytes it wrote.
 fn pack_list(fresh: Writer, list: &[u8], room: &mut [u8]) -> usize
-    requires { ⌜ (fresh ≡ writerWith (fresh .format) []) × (fresh .format < 2) × (mostOutput ≤ length (now room)) ⌝ }
+    requires { ⌜ (fresh ≡ writerWith (fresh .format) []) × (fresh .format < 2) × (maxOutput ≤ length (now room)) ⌝ }
     ensures end { λ r. ⌜ r ≡ length (listOutput (fresh .format) (now (list .entry))) ⌝ }
     ensures room { λ _. ⌜ now (room .exit) ≡ put 0 (listOutput (fresh .format) (now (list .entry))) (now (room .entry)) ⌝ }
-    ensures within { λ r. ⌜ r ≤ mostOutput ⌝ }
+    ensures within { λ r. ⌜ r ≤ maxOutput ⌝ }
 {
     let mut writer = fresh;
     let mut at = 0;
     let mut to = 0;
-    while to < MOST_OUTPUT {
+    while to < MAX_OUTPUT {
         if is_done(writer.len, list.len() - at) {
             return to;
         }
@@ -71,7 +69,7 @@ fn pack_list(fresh: Writer, list: &[u8], room: &mut [u8]) -> usize
         let answer = step.answer;
         match answer {
             Answer::Refused { cause, place } => return write_refusal(cause, place, room),
-            Answer::Filled { used } => {
+            Answer::Accepted { used } => {
                 writer = step.writer;
                 at += used;
                 to = end;
@@ -88,19 +86,19 @@ pub fn pack_into(input: &[u8], room: &mut [u8]) -> usize
     ensures room { λ _. ⌜ now (room .exit) ≡ packRoom (now (input .entry)) (now (room .entry)) ⌝ }
     ensures within { λ r. ⌜ r ≤ length (now (room .exit)) ⌝ }
 {
-    if room.len() < MOST_OUTPUT {
+    if room.len() < MAX_OUTPUT {
         return 0;
     }
     let number = read_number(input);
     match number {
         Number::Broken => write_refusal(Cause::BrokenRecord, 0, room),
         Number::Value { value, used } => {
-            let opened = Writer::fresh(value);
-            let verdict = opened.verdict;
-            if let Verdict::Faulty(cause, place) = verdict {
+            let created = Writer::fresh(value);
+            let verdict = created.verdict;
+            if let Verdict::Refused(cause, place) = verdict {
                 return write_refusal(cause, place, room);
             }
-            let writer = opened.writer;
+            let writer = created.writer;
             pack_list(writer, &input[used..], room)
         }
     }

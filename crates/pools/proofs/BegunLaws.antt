@@ -14,7 +14,7 @@ use Rattle.lists.proofs.PickLaws.{pick-both, pick-by}
 use Rattle.cause.specs.Checks.{firstFault}
 use Rattle.cause.specs.declared.Cause.{Cause}
 use Rattle.cause.specs.declared.Verdict.{Verdict}
-use Rattle.cause.specs.declared.Verdict.the-variants.{Sound, Faulty}
+use Rattle.cause.specs.declared.Verdict.the-variants.{Accepted, Refused}
 use Rattle.container.specs.Layout.{start, bit}
 use Rattle.message.specs.Heads.{classOf}
 use Rattle.message.specs.Charges.{chargesBy}
@@ -23,7 +23,7 @@ use Rattle.pools.specs.Rows.{raised}
 use Rattle.pools.specs.TalliesMirror.{firstAt, secondAt, startedAt, paidAt, startChecks, startsChecks, startsPay}
 use Rattle.pools.specs.declared.receiver.Receiver.{Receiver}
 use Rattle.pools.proofs.TallyLaws.{raised-same, zero-at, zero-counts, payable, taken, taken-most}
-use Rattle.pools.proofs.PassLaws.{never-sound, Walk, Walks, Walking}
+use Rattle.pools.proofs.PassLaws.{never-accepted, Walk, Walks, Walking}
 
 -- byte 0 of what starts in granule g is its byte times bit g
 pub bit-fits : (n w g : ℕ) → n < 256 → {b : ℕ} → b ≡ w / 2 ^ g % 2 → n * b < 2 ^ 8
@@ -54,13 +54,13 @@ started-pays false first second p = refl
 
 module _ (r : Receiver) (c : List ℕ) (w g : ℕ) (l : List ℕ) {first a : ℕ} (ef : first ≡ startedAt c w g) (ea : a ≡ start g) {v : Verdict} (u : v ≡ firstFault (paymentChecks r (first % 16) first (getD c (a + 1) 0))) where
   abbrev Charged : List ℕ → Type 0
-  Charged d = (v ≡ firstFault (startChecks r c w g)) × (v ≡ Sound → d ≡ raised (paidAt c w g) l)
+  Charged d = (v ≡ firstFault (startChecks r c w g)) × (v ≡ Accepted → d ≡ raised (paidAt c w g) l)
 
   judged : v ≡ firstFault (startChecks r c w g)
   judged = u ∙ rw (ef, ea) (started-checks (bit w g) r (firstAt c g) (secondAt c g))
 
-  pub charge-refused : {k : Cause} {n : ℕ} → v ≡ Faulty k n → {d : List ℕ} → Charged d
-  charge-refused e = (judged, λ s. absurd (never-sound e s))
+  pub charge-refused : {k : Cause} {n : ℕ} → v ≡ Refused k n → {d : List ℕ} → Charged d
+  charge-refused e = (judged, λ s. absurd (never-accepted e s))
 
   pub charge-added : {d : List ℕ} → d ≡ raised (taken (chargesBy (first % 16) first (getD c (a + 1) 0))) l → Charged d
   charge-added e = (judged, λ _. e ∙ rw (ef, ea) (raised-same (taken (chargesBy (startedAt c w g % 16) (startedAt c w g) (secondAt c g))) (paidAt c w g) l (λ p _. started-pays (bit w g) (firstAt c g) (secondAt c g) p)))

@@ -14,8 +14,8 @@ use Rattle.lists.proofs.Tests.{cases, and-right}
 use Rattle.lists.proofs.PickLaws.{pick-both, pick-by}
 use Rattle.cause.specs.Checks.{firstFault}
 use Rattle.cause.specs.declared.Verdict.{Verdict}
-use Rattle.cause.specs.declared.Verdict.the-variants.{Sound}
-use Rattle.cause.proofs.CheckLaws.{sound-pass}
+use Rattle.cause.specs.declared.Verdict.the-variants.{Accepted}
+use Rattle.cause.proofs.CheckLaws.{accepted-pass}
 use Rattle.container.specs.Layout.{start, bit}
 use Rattle.container.specs.Grants.{grantOf}
 use Rattle.container.specs.declared.grant.Grant.{Grant}
@@ -166,8 +166,8 @@ module _ (n : Grant) (l : List ℕ) (counts : Counts 65535 l) (b : Bytes n) (pla
             ∙ raised-same (λ p. ((f₁ p + f₂ p) + f₃ p) + f₄ p) (λ p. grantedBy p n) l (λ p _. rw (eq, ek) (given-by n p plane h))
 
 -- a grant that is judged sound has a pool for its DAT count
-pub sound-pooled : (r : Receiver) (n : Grant) → firstFault (grantChecks r n) ≡ Sound → datPooled n ≡ true
-sound-pooled r n e = weaker (n .shc) (eqb (n .dat) 0) (r .push) (ltb (n .rp) 2) (sound-pass (grantChecks r n) e .1 .0)
+pub accepted-pooled : (r : Receiver) (n : Grant) → firstFault (grantChecks r n) ≡ Accepted → datPooled n ≡ true
+accepted-pooled r n e = weaker (n .shc) (eqb (n .dat) 0) (r .push) (ltb (n .rp) 2) (accepted-pass (grantChecks r n) e .1 .0)
   where
     weaker : (a b c d : Bool) → (a || (b || (c && d))) ≡ true → (a || (b || d)) ≡ true
     weaker true b c d h = refl
@@ -184,7 +184,7 @@ module _ (r : Receiver) (c : List ℕ) (w g : ℕ) (l : List ℕ) {first a : ℕ
   abbrev Passed : Verdict → List ℕ → Type 0
   Passed v d =
       (v ≡ firstFault (pick (grantsAt c w g) (grantChecks r (grantAt c g)) []))
-      × (v ≡ Sound → d ≡ raised (λ p. pick (grantsAt c w g) (grantedBy p (grantAt c g)) 0) l)
+      × (v ≡ Accepted → d ≡ raised (λ p. pick (grantsAt c w g) (grantedBy p (grantAt c g)) 0) l)
 
   abbrev gives : ℕ → ℕ
   gives p = grantedBy p (grantAt c g)
@@ -192,11 +192,11 @@ module _ (r : Receiver) (c : List ℕ) (w g : ℕ) (l : List ℕ) {first a : ℕ
   misc-is : m ≡ grantsAt c w g
   misc-is = em ∙ rw (ef, ea) (started-misc (bit w g) (firstAt c g) (secondAt c g))
 
-  pub no-grant : not m ≡ true → length l ≡ 14 → Passed Sound l
+  pub no-grant : not m ≡ true → length l ≡ 14 → Passed Accepted l
   no-grant t = passed-over (grantsAt c w g) (grantChecks r (grantAt c g)) gives l (sym misc-is ∙ not-true m t)
 
   pub some-grant : not m ≡ false → {n : Grant} → n ≡ grantOf (getD c (a + 2) 0) (getD c (a + 3) 0) (getD c (a + 4) 0) (getD c (a + 5) 0) (getD c (a + 6) 0)
-      → {v : Verdict} {d : List ℕ} → v ≡ firstFault (grantChecks r n) → (v ≡ Sound → d ≡ raised (λ p. grantedBy p n) l) → Passed v d
+      → {v : Verdict} {d : List ℕ} → v ≡ firstFault (grantChecks r n) → (v ≡ Accepted → d ≡ raised (λ p. grantedBy p n) l) → Passed v d
   some-grant t {n} en u x =
       let e : n ≡ grantAt c g = en ∙ ap (λ (i : ℕ). grantOf (getD c (i + 2) 0) (getD c (i + 3) 0) (getD c (i + 4) 0) (getD c (i + 5) 0) (getD c (i + 6) 0)) ea in
       passed (grantsAt c w g) (grantChecks r (grantAt c g)) gives l (sym misc-is ∙ not-false m t)
@@ -244,7 +244,7 @@ module _ (r : Receiver) (c : List ℕ) (w : ℕ) where
       pub granted-starts : Bytes n → Granting l 0
       granted-starts b = record { within = omega arith; few = counts-raised (λ p. grantedBy p n) (zero-counts 0) (given-most n b) el; same = refl; sums = λ p k. refl }
 
-      pub all-granted : {v : Verdict} → v ≡ firstFault (grantChecks r n) → v ≡ Sound → {t : Tally} → Tallied (crdtChecks r c w 12 0) givesAll t
+      pub all-granted : {v : Verdict} → v ≡ firstFault (grantChecks r n) → v ≡ Accepted → {t : Tally} → Tallied (crdtChecks r c w 12 0) givesAll t
           → Tallied (grantChecks r n ++ crdtChecks r c w 12 0) (λ p. grantedBy p n + crdtGives c w 12 0 p) t
       all-granted u s =
           tallied-behind (grantChecks r n) (crdtChecks r c w 12 0) u s givesAll (λ p. grantedBy p n + crdtGives c w 12 0 p)

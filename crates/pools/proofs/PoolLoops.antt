@@ -8,7 +8,7 @@ use borrow.Author.Tests.{not-true, not-false}
 use Rattle.cause.specs.Checks.{Check, check, firstFault}
 use Rattle.cause.specs.declared.Cause.{Cause}
 use Rattle.cause.specs.declared.Verdict.{Verdict}
-use Rattle.cause.specs.declared.Verdict.the-variants.{Sound, Faulty}
+use Rattle.cause.specs.declared.Verdict.the-variants.{Accepted, Refused}
 
 -- the pools left
 left : (p : ℕ) → p < 14 → 14 - p ≡ suc (14 - (p + 1))
@@ -42,14 +42,14 @@ pub record Checks (checks : ℕ → ℕ → List Check) (test : ℕ → Bool) (a
   pub more : (k p : ℕ) → checks (suc k) p ≡ check (test p) a p ∷ checks k (p + 1)
 
 module _ {checks : ℕ → ℕ → List Check} {test : ℕ → Bool} {a : Cause} (s : Checks checks test a) (p : ℕ) where
-  pub checks-end : 14 ≤ p → Sound ≡ firstFault (checks (14 - p) p)
+  pub checks-end : 14 ≤ p → Accepted ≡ firstFault (checks (14 - p) p)
   checks-end h = rw (none-left p h, s .none p)
 
   module _ (h : p < 14) {all : Verdict} {t : Bool} (ea : all ≡ firstFault (checks (14 - p) p)) (et : t ≡ test p) where
     judged : all ≡ firstFault (check t a p ∷ checks (14 - (p + 1)) (p + 1))
     judged = ea ∙ rw (left p h, et, s .more (14 - (p + 1)) p)
 
-    pub checks-stop : not t ≡ true → Faulty a p ≡ all
+    pub checks-stop : not t ≡ true → Refused a p ≡ all
     checks-stop n = rw (judged, not-true t n)
 
     pub checks-go-on : not t ≡ false → all ≡ firstFault (checks (14 - (p + 1)) (p + 1))

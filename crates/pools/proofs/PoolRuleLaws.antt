@@ -12,8 +12,8 @@ use Rattle.lists.proofs.Tables.{below-at}
 use Rattle.lists.proofs.Tests.{cases, never-both, T-true, and-left, and-right, and-both, or-cases}
 use Rattle.cause.specs.Checks.{Check, Pass, firstFault, passes}
 use Rattle.cause.specs.declared.Verdict.{Verdict}
-use Rattle.cause.specs.declared.Verdict.the-variants.{Sound, Faulty}
-use Rattle.cause.proofs.CheckLaws.{sound-pass, pass-sound}
+use Rattle.cause.specs.declared.Verdict.the-variants.{Accepted, Refused}
+use Rattle.cause.proofs.CheckLaws.{accepted-pass, pass-accepted}
 use Rattle.message.specs.HeadRules.{among}
 use Rattle.message.proofs.HeadRuleLaws.{each-of}
 use Rattle.pools.specs.Pools.{hasPool, capacityOk, capacitiesOk, receiverOk}
@@ -29,11 +29,11 @@ by-test t f g = ⊎-elim f g (cases t)
 
 -- every check passes exactly where the first fault is none
 pub passes-exactly : (l : List Check) → (passes (firstFault l) ≡ true) ↔ Pass l
-passes-exactly l = (λ e. sound-pass l (sound (firstFault l) e), λ h. rw (pass-sound l h))
+passes-exactly l = (λ e. accepted-pass l (sound (firstFault l) e), λ h. rw (pass-accepted l h))
   where
-    sound : (v : Verdict) → passes v ≡ true → v ≡ Sound
-    sound Sound e = refl
-    sound (Faulty k p) e = absurd (never-both refl e)
+    sound : (v : Verdict) → passes v ≡ true → v ≡ Accepted
+    sound Accepted e = refl
+    sound (Refused k p) e = absurd (never-both refl e)
 
 -- ---- the pools of a receiver
 module _ (r : Receiver) where

@@ -10,21 +10,31 @@ use Rattle.cause.specs.declared.Cause.the-variants.{MissingPool}
 use Rattle.container.specs.Grants.{grantOf}
 use Rattle.container.specs.declared.grant.Grant.{Grant}
 use Rattle.message.specs.Heads.{typeOf, classOf, isMisc, crdtGrant}
-use Rattle.message.specs.Charges.{sharedCrdt, resPlane, charges}
+use Rattle.message.specs.Charges.{sharedCrdt, resPlane, charges, sharedReq, rspPool, snpPool, sharedDat, dataDat, pushDat}
 use Rattle.message.specs.declared.heads.Class.{Class}
 use Rattle.message.specs.declared.heads.Class.the-variants.{Unknown, Request, Response, Snoop, Data, RequestData, Misc}
 use Rattle.message.specs.declared.charge.Charge.{Charge}
 use Rattle.pools.specs.declared.receiver.Receiver.{Receiver}
 
+-- the pools of a direction, the most planes of a receiver, and the largest capacity
+abbrev pub poolCount : ℕ
+poolCount = 14
+
+abbrev pub maxPlanes : ℕ
+maxPlanes = 8
+
+abbrev pub maxCapacity : ℕ
+maxCapacity = 1023
+
 -- pool p exists: planes 0 to N−1; 12 with push, 13 with push and N ≥ 2; 0, 9, 10 and 11 always
 abbrev pub hasPool : Receiver → ℕ → Bool
 hasPool r p =
-    pick (leb 1 p && leb p 8) (leb p (r .planes))
-    (pick (eqb p 12) (r .push) (pick (eqb p 13) (r .push && leb 2 (r .planes)) (ltb p 12)))
+    pick (leb 1 p && leb p maxPlanes) (leb p (r .planes))
+    (pick (eqb p dataDat) (r .push) (pick (eqb p pushDat) (r .push && leb 2 (r .planes)) (ltb p dataDat)))
 
 -- a capacity is at most 1,023, and that of a missing pool is 0
 abbrev pub capacityOk : Receiver → ℕ → Bool
-capacityOk r p = leb (getD (r .capacities) p 0) 1023 && (hasPool r p || eqb (getD (r .capacities) p 0) 0)
+capacityOk r p = leb (getD (r .capacities) p 0) maxCapacity && (hasPool r p || eqb (getD (r .capacities) p 0) 0)
 
 -- the capacities of k pools from p on
 unfoldable pub capacitiesOk : Receiver → ℕ → ℕ → Bool
@@ -33,7 +43,7 @@ capacitiesOk r (suc k) p = capacityOk r p && capacitiesOk r k (p + 1)
 
 -- a valid receiver: 1 to 8 planes, and its capacities
 abbrev pub receiverOk : Receiver → Bool
-receiverOk r = (leb 1 (r .planes) && leb (r .planes) 8) && capacitiesOk r 14 0
+receiverOk r = (leb 1 (r .planes) && leb (r .planes) maxPlanes) && capacitiesOk r poolCount 0
 
 -- whether a class pays a REQ, a DAT of DataS or DataL, or a DAT of push data
 abbrev pub paysReq : Class → Bool
@@ -66,10 +76,10 @@ paysPush Misc = false
 -- cause 14 of a message, REQ before DAT, by its type and its bytes 0 and 1: ResPlane is below N even where shared credit pays; a dedicated
 -- DAT charge needs its pool; a WrReqData needs push
 abbrev pub paymentChecks : Receiver → ℕ → ℕ → ℕ → List Check
-paymentChecks r t first second =
-    check (not (paysReq (classOf t)) || ltb (resPlane first) (r .planes)) MissingPool (1 + resPlane first)
-    ∷ check (not (paysData (classOf t)) || (sharedCrdt first || hasPool r 12)) MissingPool 12
-    ∷ check (not (paysPush (classOf t)) || (r .push && (eqb (second % 2) 1 || hasPool r 13))) MissingPool 13
+paymentChecks r t byte0 byte1 =
+    check (not (paysReq (classOf t)) || ltb (resPlane byte0) (r .planes)) MissingPool (1 + resPlane byte0)
+    ∷ check (not (paysData (classOf t)) || (sharedCrdt byte0 || hasPool r dataDat)) MissingPool dataDat
+    ∷ check (not (paysPush (classOf t)) || (r .push && (eqb (byte1 % 2) 1 || hasPool r pushDat))) MissingPool pushDat
     ∷ []
 
 abbrev pub messageChecks : Receiver → List ℕ → List Check
@@ -79,7 +89,7 @@ messageChecks r m = paymentChecks r (typeOf m) (getD m 0 0) (getD m 1 0)
 abbrev pub grantChecks : Receiver → Grant → List Check
 grantChecks r n =
     check (n .shc || ltb (n .rp) (r .planes)) MissingPool (1 + n .rp)
-    ∷ check (n .shc || (eqb (n .dat) 0 || (r .push && ltb (n .rp) 2))) MissingPool (pick (eqb (n .rp) 0) 12 13)
+    ∷ check (n .shc || (eqb (n .dat) 0 || (r .push && ltb (n .rp) 2))) MissingPool (pick (eqb (n .rp) 0) dataDat pushDat)
     ∷ []
 
 -- in granule order
@@ -105,10 +115,10 @@ paidTo p (m ∷ ms) = chargedTo p (charges m) + paidTo p ms
 -- REQ plane RP and to 12 (RP 0) or 13 (RP 1)
 abbrev pub grantedBy : ℕ → Grant → ℕ
 grantedBy p n =
-    pick (eqb p 9) (n .rsp)
-    (pick (eqb p 10) (n .snp)
-    (pick (n .shc) (pick (eqb p 0) (n .req) (pick (eqb p 11) (n .dat) 0))
-    (pick (eqb p (1 + n .rp)) (n .req) (pick (eqb p (12 + n .rp)) (n .dat) 0))))
+    pick (eqb p rspPool) (n .rsp)
+    (pick (eqb p snpPool) (n .snp)
+    (pick (n .shc) (pick (eqb p sharedReq) (n .req) (pick (eqb p sharedDat) (n .dat) 0))
+    (pick (eqb p (1 + n .rp)) (n .req) (pick (eqb p (dataDat + n .rp)) (n .dat) 0))))
 
 unfoldable pub grantedTo : ℕ → List Grant → ℕ
 grantedTo p [] = 0

@@ -7,7 +7,7 @@ use lib.ListN.{getD}
 use lib.Dec.{eqb, ltb, leb}
 use Rattle.lists.specs.Pick.{pick}
 use Rattle.cause.specs.Checks.{Check, firstFault}
-use Rattle.cause.specs.declared.Verdict.the-variants.{Sound}
+use Rattle.cause.specs.declared.Verdict.the-variants.{Accepted}
 use Rattle.container.specs.Layout.{start, bit}
 use Rattle.container.specs.Grants.{grantOf}
 use Rattle.container.specs.declared.grant.Grant.{Grant}
@@ -20,7 +20,7 @@ use Rattle.pools.specs.declared.tally.Tally.{Tally}
 
 -- the pool that a message of type t pays, but for push data: RSP or SNP, or the one of DAT or REQ that byte 0 names
 abbrev pub poolBy : ℕ → ℕ → ℕ
-poolBy t first = pick (leb 3 t && ltb t 6) (pick (eqb t 5) 10 9) (pick (leb 6 t && ltb t 8) (datPool first) (reqPool first))
+poolBy t byte0 = pick (leb 3 t && ltb t 6) (pick (eqb t 5) 10 9) (pick (leb 6 t && ltb t 8) (datPool byte0) (reqPool byte0))
 
 -- bytes 0 and 1 of what starts in granule g
 abbrev pub firstAt : List ℕ → ℕ → ℕ
@@ -69,4 +69,4 @@ crdtGives c w (suc k) g p = pick (grantsAt c w g) (grantedBy p (grantAt c g)) 0 
 -- what a tally gives: the first fault of its checks, and where there is none, the count of each pool
 pub record Tallied (checks : List Check) (f : ℕ → ℕ) (r : Tally) : Type 0 where
   pub verdict : r .verdict ≡ firstFault checks
-  pub counts : r .verdict ≡ Sound → r .counts ≡ row f 14 0
+  pub counts : r .verdict ≡ Accepted → r .counts ≡ row f 14 0

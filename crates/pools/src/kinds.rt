@@ -2,6 +2,7 @@
 ghost use mathlib.Core.Path.{_≡_};
 ghost use Prim.Native.Nat.{_+_, _-_, _<_, _^_, min};
 ghost use lib.Dec.{eqb, leb};
+use crate::table::ROW;
 
 // Credits of one pool.
 pub struct Credits(pub u32);
@@ -63,11 +64,11 @@ impl Slots {
 }
 
 // The slots that a row of credits stands for.
-pub(crate) fn claim_row(credits: [u32; 14]) -> [u32; 14]
+pub(crate) fn claim_row(credits: [u32; ROW]) -> [u32; ROW]
     ensures { λ r. ⌜ r ≡ credits ⌝ }
 {
     let mut slots = credits;
-    for p in 0..14 {
+    for p in 0..ROW {
         slots[p] = Credits(credits[p]).claim().0;
     }
     slots

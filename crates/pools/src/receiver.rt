@@ -8,22 +8,38 @@ ghost use Rattle.cause.specs.Checks.{firstFault, check};
 ghost use Rattle.cause.specs.declared.Cause.the-variants.{MissingPool};
 ghost use Rattle.message.specs.Charges.{resPlane, sharedCrdt};
 ghost use Rattle.pools.specs.Pools.{hasPool, capacityOk, receiverOk, paymentChecks, grantChecks};
+use crate::table::ROW;
 use cause::Cause;
 use cause::Verdict;
 use container::Grant;
 use message::Class;
 use message::classify_message;
 
-// The dedicated DAT pools: of DataS and DataL, and of push data.
-const DATA_POOL: u64 = 12;
+// The pools.
+pub const POOLS: u32 = 14;
 
-const PUSH_POOL: u64 = 13;
+// The most planes of a receiver, and the largest capacity of a pool.
+pub const MAX_PLANES: u32 = 8;
+
+pub const MAX_CAPACITY: u32 = 1023;
+
+// The pools behind those of REQ, and the dedicated DAT pools: of DataS and DataL, and of push data.
+const RSP_POOL: u32 = 9;
+
+const DATA_POOL: u32 = 12;
+
+const PUSH_POOL: u32 = 13;
+
+// Their numbers as places.
+const DATA_PLACE: u64 = 12;
+
+const PUSH_PLACE: u64 = 13;
 
 // Its planes, whether it takes push data, and the capacities of its pools.
 pub struct Receiver {
     pub planes: u32,
     pub push: bool,
-    pub capacities: [u32; 14],
+    pub capacities: [u32; ROW],
 }
 
 impl Receiver {
@@ -31,19 +47,19 @@ impl Receiver {
     pub fn has_pool(self, pool: u32) -> bool
         ensures { λ r. ⌜ r ≡ hasPool self pool ⌝ }
     {
-        if pool == 12 {
+        if pool == DATA_POOL {
             return self.push;
         }
-        if pool == 13 {
+        if pool == PUSH_POOL {
             if self.push {
                 return 2 <= self.planes;
             }
             return false;
         }
-        if pool < 9 {
+        if pool < RSP_POOL {
             return pool <= self.planes;
         }
-        pool < 12
+        pool < DATA_POOL
     }
 
     // Whether the capacity of a pool is at most 1,023, and 0 where the pool is missing.
@@ -52,7 +68,7 @@ impl Receiver {
         ensures { λ r. ⌜ r ≡ capacityOk self pool ⌝ }
     {
         let capacity = self.capacities[pool as usize];
-        if 1023 < capacity {
+        if MAX_CAPACITY < capacity {
             return false;
         }
         if capacity == 0 {
@@ -68,11 +84,11 @@ impl Receiver {
         if self.planes < 1 {
             return false;
         }
-        if 8 < self.planes {
+        if MAX_PLANES < self.planes {
             return false;
         }
         let mut pool: u32 = 0;
-        while pool < 14 {
+        while pool < POOLS {
             if !self.keeps_capacity(pool) {
                 return false;
             }
@@ -82,86 +98,86 @@ impl Receiver {
     }
 
     // The REQ plane that byte 0 of a message names.
-    fn judge_plane(self, first: u8) -> Verdict
-        ensures { λ r. ⌜ r ≡ firstFault (check (ltb (resPlane first) (self .planes)) MissingPool (1 + resPlane first) ∷ []) ⌝ }
+    fn judge_plane(self, byte0: u8) -> Verdict
+        ensures { λ r. ⌜ r ≡ firstFault (check (ltb (resPlane byte0) (self .planes)) MissingPool (1 + resPlane byte0) ∷ []) ⌝ }
     {
-        let plane = first / 32;
+        let plane = byte0 / 32;
         if (plane as u32) < self.planes {
-            return Verdict::Sound;
+            return Verdict::Accepted;
         }
-        Verdict::Faulty(Cause::MissingPool, 1 + plane as u64)
+        Verdict::Refused(Cause::MissingPool, 1 + plane as u64)
     }
 
     // The DAT pool of DataS or DataL, by byte 0.
-    fn judge_data(self, first: u8) -> Verdict
-        ensures { λ r. ⌜ r ≡ firstFault (check (sharedCrdt first || self .push) MissingPool 12 ∷ []) ⌝ }
+    fn judge_data(self, byte0: u8) -> Verdict
+        ensures { λ r. ⌜ r ≡ firstFault (check (sharedCrdt byte0 || self .push) MissingPool 12 ∷ []) ⌝ }
     {
         if self.push {
-            return Verdict::Sound;
+            return Verdict::Accepted;
         }
-        if first / 16 % 2 == 1 {
-            return Verdict::Sound;
+        if byte0 / 16 % 2 == 1 {
+            return Verdict::Accepted;
         }
-        Verdict::Faulty(Cause::MissingPool, DATA_POOL)
+        Verdict::Refused(Cause::MissingPool, DATA_PLACE)
     }
 
     // The DAT pool of push data, by byte 1.
-    fn judge_push(self, second: u8) -> Verdict
-        ensures { λ r. ⌜ r ≡ firstFault (check (self .push && (eqb (second % 2) 1 || hasPool self 13)) MissingPool 13 ∷ []) ⌝ }
+    fn judge_push(self, byte1: u8) -> Verdict
+        ensures { λ r. ⌜ r ≡ firstFault (check (self .push && (eqb (byte1 % 2) 1 || hasPool self 13)) MissingPool 13 ∷ []) ⌝ }
     {
         if self.push {
             if 2 <= self.planes {
-                return Verdict::Sound;
+                return Verdict::Accepted;
             }
-            if second % 2 == 1 {
-                return Verdict::Sound;
+            if byte1 % 2 == 1 {
+                return Verdict::Accepted;
             }
         }
-        Verdict::Faulty(Cause::MissingPool, PUSH_POOL)
+        Verdict::Refused(Cause::MissingPool, PUSH_PLACE)
     }
 
     // Whether every pool that a message with this byte 0 may need exists.
-    fn has_every_pool(self, first: u8) -> bool
-        ensures { λ r. ⌜ r ≡ (self .push && (leb 2 (self .planes) && ltb (resPlane first) (self .planes))) ⌝ }
+    fn has_every_pool(self, byte0: u8) -> bool
+        ensures { λ r. ⌜ r ≡ (self .push && (leb 2 (self .planes) && ltb (resPlane byte0) (self .planes))) ⌝ }
     {
         if self.push {
             if 2 <= self.planes {
-                return ((first / 32) as u32) < self.planes;
+                return ((byte0 / 32) as u32) < self.planes;
             }
         }
         false
     }
 
     // The pools of a message by the class of its type: REQ before DAT.
-    fn judge_class(self, kind: u8, first: u8, second: u8) -> Verdict
-        ensures { λ r. ⌜ r ≡ firstFault (paymentChecks self kind first second) ⌝ }
+    fn judge_class(self, msgtype: u8, byte0: u8, byte1: u8) -> Verdict
+        ensures { λ r. ⌜ r ≡ firstFault (paymentChecks self msgtype byte0 byte1) ⌝ }
     {
-        let class = classify_message(kind);
+        let class = classify_message(msgtype);
         match class {
-            Class::Unknown => Verdict::Sound,
-            Class::Request => self.judge_plane(first),
-            Class::Response => Verdict::Sound,
-            Class::Snoop => Verdict::Sound,
-            Class::Data => self.judge_data(first),
+            Class::Unknown => Verdict::Accepted,
+            Class::Request => self.judge_plane(byte0),
+            Class::Response => Verdict::Accepted,
+            Class::Snoop => Verdict::Accepted,
+            Class::Data => self.judge_data(byte0),
             Class::RequestData => {
-                let plane = self.judge_plane(first);
-                if let Verdict::Faulty(_, _) = plane {
+                let plane = self.judge_plane(byte0);
+                if let Verdict::Refused(_, _) = plane {
                     return plane;
                 }
-                self.judge_push(second)
+                self.judge_push(byte1)
             }
-            Class::Misc => Verdict::Sound,
+            Class::Misc => Verdict::Accepted,
         }
     }
 
     // The pools of a message of this type, by its bytes 0 and 1: REQ before DAT.
-    pub fn judge_payment(self, kind: u8, first: u8, second: u8) -> Verdict
-        ensures { λ r. ⌜ r ≡ firstFault (paymentChecks self kind first second) ⌝ }
+    pub fn judge_payment(self, msgtype: u8, byte0: u8, byte1: u8) -> Verdict
+        ensures { λ r. ⌜ r ≡ firstFault (paymentChecks self msgtype byte0 byte1) ⌝ }
     {
-        if self.has_every_pool(first) {
-            return Verdict::Sound;
+        if self.has_every_pool(byte0) {
+            return Verdict::Accepted;
         }
-        self.judge_class(kind, first, second)
+        self.judge_class(msgtype, byte0, byte1)
     }
 
     // The pools of a grant: the plane before DAT.
@@ -169,26 +185,26 @@ impl Receiver {
         ensures { λ r. ⌜ r ≡ firstFault (grantChecks self grant) ⌝ }
     {
         if grant.shc {
-            return Verdict::Sound;
+            return Verdict::Accepted;
         }
         let plane = grant.rp;
         if self.planes <= plane as u32 {
-            return Verdict::Faulty(Cause::MissingPool, 1 + plane as u64);
+            return Verdict::Refused(Cause::MissingPool, 1 + plane as u64);
         }
         if grant.dat == 0 {
-            return Verdict::Sound;
+            return Verdict::Accepted;
         }
         if plane == 0 {
             if self.push {
-                return Verdict::Sound;
+                return Verdict::Accepted;
             }
-            return Verdict::Faulty(Cause::MissingPool, DATA_POOL);
+            return Verdict::Refused(Cause::MissingPool, DATA_PLACE);
         }
         if plane == 1 {
             if self.push {
-                return Verdict::Sound;
+                return Verdict::Accepted;
             }
         }
-        Verdict::Faulty(Cause::MissingPool, PUSH_POOL)
+        Verdict::Refused(Cause::MissingPool, PUSH_PLACE)
     }
 }

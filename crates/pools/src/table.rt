@@ -5,6 +5,12 @@ ghost use lib.ListN.{getD};
 ghost use Rattle.lists.specs.Parts.{part, pad};
 ghost use Rattle.pools.specs.Rows.{nested, flattened};
 
+// The counts of one direction, one a pool.
+pub const ROW: usize = 14;
+
+// The counts of both directions.
+pub const TABLE: usize = 28;
+
 // Number i from `start` on, 0 behind the end of the list.
 fn number_at(list: &[u32], start: usize, i: usize) -> u32
     ensures { λ r. ⌜ r ≡ getD (now (list .entry)) (start + i) 0 ⌝ }
@@ -19,32 +25,32 @@ fn number_at(list: &[u32], start: usize, i: usize) -> u32
 }
 
 // Fourteen numbers of a list, from `start` on, with zeros behind its end.
-pub fn take_row(list: &[u32], start: usize) -> [u32; 14]
+pub fn take_row(list: &[u32], start: usize) -> [u32; ROW]
     ensures { λ r. ⌜ r ≡ pad 14 (part start 14 (now (list .entry))) ⌝ }
 {
-    let mut out = [0u32; 14];
-    for i in 0..14 {
+    let mut out = [0u32; ROW];
+    for i in 0..ROW {
         out[i] = number_at(list, start, i);
     }
     out
 }
 
 // The two rows of a flat table.
-pub fn nest(flat: [u32; 28]) -> [[u32; 14]; 2]
+pub fn nest(flat: [u32; TABLE]) -> [[u32; ROW]; 2]
     ensures { λ r. ⌜ r ≡ nested flat ⌝ }
 {
     let first = take_row(&flat, 0);
-    let second = take_row(&flat, 14);
+    let second = take_row(&flat, ROW);
     [first, second]
 }
 
 // Two rows as a flat table.
-pub fn flatten(rows: [[u32; 14]; 2]) -> [u32; 28]
+pub fn flatten(rows: [[u32; ROW]; 2]) -> [u32; TABLE]
     ensures { λ r. ⌜ r ≡ flattened rows ⌝ }
 {
-    let mut out = [0u32; 28];
-    for i in 0..28 {
-        out[i] = rows[i / 14][i % 14];
+    let mut out = [0u32; TABLE];
+    for i in 0..TABLE {
+        out[i] = rows[i / ROW][i % ROW];
     }
     out
 }

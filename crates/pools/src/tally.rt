@@ -4,7 +4,7 @@ ghost use Prim.Native.Nat.{_+_, _%_, _<_, _^_};
 ghost use mathlib.Core.Bool.{_&&_};
 ghost use lib.Dec.{eqb, ltb, leb};
 ghost use lib.ListN.{length, getD, replicate};
-ghost use Rattle.cause.specs.declared.Verdict.the-variants.{Faulty};
+ghost use Rattle.cause.specs.declared.Verdict.the-variants.{Refused};
 ghost use Rattle.lists.specs.Pick.{pick};
 ghost use Rattle.message.specs.Charges.{reqPool, datPool, listed, chargesBy, charges};
 ghost use Rattle.pools.specs.Pools.{chargedTo};
@@ -12,11 +12,21 @@ ghost use Rattle.pools.specs.Rows.{row, raised, Small};
 ghost use Rattle.pools.specs.TalliesMirror.{poolBy, startedAt};
 use crate::kinds::Credits;
 use crate::kinds::claim_row;
+use crate::table::ROW;
 use cause::Cause;
 use cause::Verdict;
 use container::locate_granule;
 use container::start_bit;
 use message::Charges;
+use message::DATA_L;
+use message::DATA_S;
+use message::REQ_S;
+use message::RESP;
+use message::RSP;
+use message::SNOOP;
+use message::SNP;
+use message::WR_REQ_DATA_L;
+use message::WR_REQ_DATA_S;
 use message::charge_message;
 use message::choose_dat;
 use message::choose_push;
@@ -26,16 +36,16 @@ use slices::byte_at;
 // The first fault, and the counts by pool.
 pub struct Tally {
     pub verdict: Verdict,
-    pub counts: [u32; 14],
+    pub counts: [u32; ROW],
 }
 
 // A refusal: nothing is counted.
 pub(crate) fn refuse_tally(cause: Cause, place: u64) -> Tally
-    ensures { λ r. ⌜ r ≡ record { verdict = Faulty cause place; counts = replicate 14 0 } ⌝ }
+    ensures { λ r. ⌜ r ≡ record { verdict = Refused cause place; counts = replicate 14 0 } ⌝ }
 {
     Tally {
-        verdict: Verdict::Faulty(cause, place),
-        counts: [0u32; 14],
+        verdict: Verdict::Refused(cause, place),
+        counts: [0u32; ROW],
     }
 }
 
@@ -50,11 +60,11 @@ pub(crate) fn add_count(counts: &mut [u32], pool: u8, amount: Credits)
 }
 
 // Adds what a message pays, by its bytes 0 and 1.
-pub(crate) fn add_payment(counts: &mut [u32], first: u8, second: u8)
+pub(crate) fn add_payment(counts: &mut [u32], byte0: u8, byte1: u8)
     requires { ⌜ (length (now counts) ≡ 14) × Small (now counts) ⌝ }
-    ensures { λ _. ⌜ now (counts .exit) ≡ raised (λ p. chargedTo p (listed (chargesBy (first % 16) first second))) (now (counts .entry)) ⌝ }
+    ensures { λ _. ⌜ now (counts .exit) ≡ raised (λ p. chargedTo p (listed (chargesBy (byte0 % 16) byte0 byte1))) (now (counts .entry)) ⌝ }
 {
-    let charges = charge_message(first % 16, first, second);
+    let charges = charge_message(byte0 % 16, byte0, byte1);
     match charges {
         Charges::Free => {}
         Charges::One(one) => {
@@ -68,92 +78,92 @@ pub(crate) fn add_payment(counts: &mut [u32], first: u8, second: u8)
 }
 
 // The pool that byte 0 names: one of DAT where the type is DataS or DataL, else one of REQ.
-fn choose_named(kind: u8, first: u8) -> u8
-    ensures { λ r. ⌜ r ≡ pick (leb 6 kind && ltb kind 8) (datPool first) (reqPool first) ⌝ }
+fn choose_named(msgtype: u8, byte0: u8) -> u8
+    ensures { λ r. ⌜ r ≡ pick (leb 6 msgtype && ltb msgtype 8) (datPool byte0) (reqPool byte0) ⌝ }
 {
-    let dat = choose_dat(first);
-    let req = choose_req(first);
-    match kind {
-        6 | 7 => dat,
+    let dat = choose_dat(byte0);
+    let req = choose_req(byte0);
+    match msgtype {
+        DATA_S | DATA_L => dat,
         0..=255 => req,
     }
 }
 
 // The pool of a Resp, a Resp2 or a Snoop.
-fn choose_own(kind: u8) -> u8
-    ensures { λ r. ⌜ r ≡ pick (eqb kind 5) 10 9 ⌝ }
+fn choose_own(msgtype: u8) -> u8
+    ensures { λ r. ⌜ r ≡ pick (eqb msgtype 5) 10 9 ⌝ }
 {
-    match kind {
-        5 => 10,
-        0..=255 => 9,
+    match msgtype {
+        SNOOP => SNP,
+        0..=255 => RSP,
     }
 }
 
 // The pool that a message pays, but for push data; one of REQ where it pays none.
-fn choose_pool(kind: u8, first: u8) -> u8
-    ensures { λ r. ⌜ r ≡ poolBy kind first ⌝ }
+fn choose_pool(msgtype: u8, byte0: u8) -> u8
+    ensures { λ r. ⌜ r ≡ poolBy msgtype byte0 ⌝ }
 {
-    let own = choose_own(kind);
-    let named = choose_named(kind, first);
-    match kind {
-        3..=5 => own,
+    let own = choose_own(msgtype);
+    let named = choose_named(msgtype, byte0);
+    match msgtype {
+        RESP..=SNOOP => own,
         0..=255 => named,
     }
 }
 
 // The credits that a message pays of that pool.
-fn count_credits(kind: u8) -> u32
-    ensures { λ r. ⌜ r ≡ pick (leb 1 kind && ltb kind 10) 1 0 ⌝ }
+fn count_credits(msgtype: u8) -> u32
+    ensures { λ r. ⌜ r ≡ pick (leb 1 msgtype && ltb msgtype 10) 1 0 ⌝ }
 {
-    match kind {
-        1..=9 => 1,
+    match msgtype {
+        REQ_S..=WR_REQ_DATA_L => 1,
         0 | 10..=255 => 0,
     }
 }
 
 // The credits that a message pays for push data.
-fn count_push(kind: u8) -> u32
-    ensures { λ r. ⌜ r ≡ pick (leb 8 kind && ltb kind 10) 1 0 ⌝ }
+fn count_push(msgtype: u8) -> u32
+    ensures { λ r. ⌜ r ≡ pick (leb 8 msgtype && ltb msgtype 10) 1 0 ⌝ }
 {
-    match kind {
-        8 | 9 => 1,
+    match msgtype {
+        WR_REQ_DATA_S | WR_REQ_DATA_L => 1,
         0..=255 => 0,
     }
 }
 
 // Adds the same as `add_payment` without a branch on the type, for the granule pass.
-pub(crate) fn add_charges(counts: &mut [u32], first: u8, second: u8)
+pub(crate) fn add_charges(counts: &mut [u32], byte0: u8, byte1: u8)
     requires { ⌜ (length (now counts) ≡ 14) × Small (now counts) ⌝ }
-    ensures { λ _. ⌜ now (counts .exit) ≡ raised (λ p. chargedTo p (listed (chargesBy (first % 16) first second))) (now (counts .entry)) ⌝ }
+    ensures { λ _. ⌜ now (counts .exit) ≡ raised (λ p. chargedTo p (listed (chargesBy (byte0 % 16) byte0 byte1))) (now (counts .entry)) ⌝ }
 {
-    let kind = first % 16;
+    let msgtype = byte0 % 16;
     add_count(
         counts,
-        choose_pool(kind, first),
-        Credits(count_credits(kind)),
+        choose_pool(msgtype, byte0),
+        Credits(count_credits(msgtype)),
     );
-    add_count(counts, choose_push(second), Credits(count_push(kind)));
+    add_count(counts, choose_push(byte1), Credits(count_push(msgtype)));
 }
 
 // Byte 0 of what starts in granule g, 0 where nothing does.
-pub(crate) fn read_start(container: &[u8], starts: u16, g: u8) -> u8
+pub(crate) fn read_start(container: &[u8], msgstart: u16, g: u8) -> u8
     requires { ⌜ (length (now container) ≡ 256) × (g < 12) ⌝ }
-    ensures { λ r. ⌜ r ≡ startedAt (now (container .entry)) starts g ⌝ }
+    ensures { λ r. ⌜ r ≡ startedAt (now (container .entry)) msgstart g ⌝ }
 {
-    container[locate_granule(g)] * start_bit(starts, g)
+    container[locate_granule(g)] * start_bit(msgstart, g)
 }
 
 // What a carried message pays of each pool.
-fn count_payment(carry: &[u8]) -> [u32; 14]
+fn count_payment(carry: &[u8]) -> [u32; ROW]
     ensures { λ r. ⌜ r ≡ row (λ p. chargedTo p (charges (now (carry .entry)))) 14 0 ⌝ }
 {
-    let mut counts = [0u32; 14];
+    let mut counts = [0u32; ROW];
     add_payment(&mut counts, byte_at(carry, 0), byte_at(carry, 1));
     counts
 }
 
 // The slots of each pool that a carried message takes: those that its payment stands for.
-pub fn count_carry(carry: &[u8]) -> [u32; 14]
+pub fn count_carry(carry: &[u8]) -> [u32; ROW]
     ensures { λ r. ⌜ r ≡ row (λ p. chargedTo p (charges (now (carry .entry)))) 14 0 ⌝ }
 {
     let paid = count_payment(carry);

@@ -11,13 +11,13 @@ use borrow.Author.Tests.{eq-eqb, ne-eqb, leb-true, lt-ltb, le-ltb}
 use Rattle.lists.proofs.PickLaws.{pick-by}
 use Rattle.lists.proofs.Fill.{put-whole}
 use Rattle.slices.proofs.CopyLaws.{copiedInto, copied-whole}
-use Rattle.cause.specs.Checks.{firstFault, whenSound, orElse}
+use Rattle.cause.specs.Checks.{firstFault, whenAccepted, orElse}
 use Rattle.cause.specs.Causes.{causeNumber}
 use Rattle.cause.specs.declared.Cause.{Cause}
 use Rattle.cause.specs.declared.Verdict.{Verdict}
-use Rattle.cause.specs.declared.Verdict.the-variants.{Sound, Faulty}
+use Rattle.cause.specs.declared.Verdict.the-variants.{Accepted, Refused}
 use Rattle.cause.proofs.CauseLaws.{number-most}
-use Rattle.cause.proofs.CheckLaws.{sound-pass}
+use Rattle.cause.proofs.CheckLaws.{accepted-pass}
 use Rattle.container.specs.Layout.{formatOf}
 use Rattle.container.specs.Grants.{planeAllowed}
 use Rattle.container.specs.declared.grant.Grant.{Grant}
@@ -30,7 +30,7 @@ use Rattle.writer.specs.Filling.{tailOf, writerOk, writerWith, callChecks, fill
 use Rattle.writer.specs.HoldingMirror.{Sane, cursorAt}
 use Rattle.writer.specs.declared.writer.Writer.{Writer}
 use Rattle.writer.specs.declared.writer.Answer.{Answer}
-use Rattle.writer.specs.declared.writer.Answer.the-variants.{Filled, Refused}
+use Rattle.writer.specs.declared.writer.Answer.the-variants as fill
 use Rattle.writer.specs.declared.writer.Step.{Step}
 use Rattle.writer.proofs.StateCases.{Callable, fill-callable}
 use Rattle.writer.proofs.SaneLaws.{sane-at}
@@ -44,19 +44,19 @@ copied-over x d e = copied-whole 0 x d (omega arith) ∙ put-whole x d e
 
 -- ---- the place of a broken record
 
-place-from : (k : ℕ) (l : List ℕ) (at : ℕ) (c : Cause) (p : ℕ) → at ≤ length l → faultFrom k l at ≡ Faulty c p → p ≤ length l
+place-from : (k : ℕ) (l : List ℕ) (at : ℕ) (c : Cause) (p : ℕ) → at ≤ length l → faultFrom k l at ≡ Refused c p → p ≤ length l
 unfolding faultFrom
 place-from zero l at c p h e = let z : _≡_ {A = ℕ} 0 1 = cc in absurd (omega arith)
 place-from (suc k) l at c p h e = by (firstOf (drop at l)) refl e (λ next b f. place-from k l next c p b f)
   where
-    by : (r : First) → firstOf (drop at l) ≡ r → onward r at (λ next. faultFrom k l next) ≡ Faulty c p
-        → ((next : ℕ) → next ≤ length l → faultFrom k l next ≡ Faulty c p → p ≤ length l) → p ≤ length l
+    by : (r : First) → firstOf (drop at l) ≡ r → onward r at (λ next. faultFrom k l next) ≡ Refused c p
+        → ((next : ℕ) → next ≤ length l → faultFrom k l next ≡ Refused c p → p ≤ length l) → p ≤ length l
     by Empty q v ih = let z : _≡_ {A = ℕ} 0 1 = cc in absurd (omega arith)
     by Bad q v ih = let ep : at ≡ p = cc in omega arith
     by (Whole start end) q v ih =
         let w = first-within (drop at l) start end q in let n = length-drop at l in ih (at + end) (omega arith) v
 
-list-place : (l : List ℕ) (c : Cause) (p : ℕ) → listFault l ≡ Faulty c p → p ≤ length l
+list-place : (l : List ℕ) (c : Cause) (p : ℕ) → listFault l ≡ Refused c p → p ≤ length l
 unfolding listFault
 list-place l c p e = place-from (suc (length l)) l 0 c p (omega arith) e
 
@@ -64,15 +64,15 @@ list-place l c p e = place-from (suc (length l)) l 0 c p (omega arith) e
 
 -- every check of a call is at place 0
 AtZero : Cause → ℕ → Verdict → Type 0
-AtZero c p v = v ≡ Faulty c p → p ≡ 0
+AtZero c p v = v ≡ Refused c p → p ≡ 0
 
-faulty-zero : (c : Cause) (p : ℕ) (k : Cause) → AtZero c p (Faulty k 0)
+refused-zero : (c : Cause) (p : ℕ) (k : Cause) → AtZero c p (Refused k 0)
 unfolding AtZero
-faulty-zero c p k e = let z : 0 ≡ p = cc in sym z
+refused-zero c p k e = let z : 0 ≡ p = cc in sym z
 
-sound-zero : (c : Cause) (p : ℕ) → AtZero c p Sound
+accepted-zero : (c : Cause) (p : ℕ) → AtZero c p Accepted
 unfolding AtZero
-sound-zero c p e = let z : _≡_ {A = ℕ} 0 1 = cc in absurd (omega arith)
+accepted-zero c p e = let z : _≡_ {A = ℕ} 0 1 = cc in absurd (omega arith)
 
 call-zero : (w : Writer) (k : ℕ) (n : Grant) (size : ℕ) (c : Cause) (p : ℕ) → AtZero c p (firstFault (callChecks w k n size))
 unfolding callChecks
@@ -80,27 +80,27 @@ call-zero w k n size c p =
     pick-by (AtZero c p) (writerOk w)
     (λ _. pick-by (AtZero c p) (eqb size 256)
     (λ _. pick-by (AtZero c p) (leb k 4096)
-    (λ _. pick-by (AtZero c p) (ltb (n .rp) 8 && planeAllowed n) (λ _. sound-zero c p) (λ _. faulty-zero c p _))
-    (λ _. faulty-zero c p _))
-    (λ _. faulty-zero c p _))
-    (λ _. faulty-zero c p _)
+    (λ _. pick-by (AtZero c p) (ltb (n .rp) 8 && planeAllowed n) (λ _. accepted-zero c p) (λ _. refused-zero c p _))
+    (λ _. refused-zero c p _))
+    (λ _. refused-zero c p _))
+    (λ _. refused-zero c p _)
 
-call-short : (w : Writer) (k : ℕ) (n : Grant) (size : ℕ) → firstFault (callChecks w k n size) ≡ Sound → k ≤ 4096
+call-short : (w : Writer) (k : ℕ) (n : Grant) (size : ℕ) → firstFault (callChecks w k n size) ≡ Accepted → k ≤ 4096
 unfolding callChecks
-call-short w k n size e = leb-true k 4096 (sound-pass (callChecks w k n size) e .1 .1 .0)
+call-short w k n size e = leb-true k 4096 (accepted-pass (callChecks w k n size) e .1 .1 .0)
 
 -- the place of a refused fill
-fault-place : (w : Writer) (l : List ℕ) (n : Grant) (size : ℕ) (c : Cause) (p : ℕ) → fillFault w l n size ≡ Faulty c p → p ≤ 4096
+fault-place : (w : Writer) (l : List ℕ) (n : Grant) (size : ℕ) (c : Cause) (p : ℕ) → fillFault w l n size ≡ Refused c p → p ≤ 4096
 unfolding fillFault AtZero
 fault-place w l n size c p e = by (firstFault (callChecks w (length l) n size)) refl e
   where
-    by : (v : Verdict) → firstFault (callChecks w (length l) n size) ≡ v → orElse v (listFault l) ≡ Faulty c p → p ≤ 4096
-    by Sound q f =
+    by : (v : Verdict) → firstFault (callChecks w (length l) n size) ≡ v → orElse v (listFault l) ≡ Refused c p → p ≤ 4096
+    by Accepted q f =
         let short = call-short w (length l) n size q in let place = list-place l c p f in omega arith
-    by (Faulty a b) q f = let z : p ≡ 0 = call-zero w (length l) n size c p (q ∙ f) in omega arith
+    by (Refused a b) q f = let z : p ≡ 0 = call-zero w (length l) n size c p (q ∙ f) in omega arith
 
 -- an accepted fill: few bytes used, and few owed
-module _ (w : Writer) (l : List ℕ) (n : Grant) (size : ℕ) (long : length (w .tail) ≡ 100) (e : fillFault w l n size ≡ Sound) where
+module _ (w : Writer) (l : List ℕ) (n : Grant) (size : ℕ) (long : length (w .tail) ≡ 100) (e : fillFault w l n size ≡ Accepted) where
   can : Callable w l n size
   can = fill-callable w l n size e
 
@@ -129,9 +129,9 @@ module _ (w : Writer) (l : List ℕ) (n : Grant) (size : ℕ) (long : length (w 
 -- the numbers of an answer are small
 module _ (w : Writer) (l : List ℕ) (n : Grant) (size : ℕ) (long : length (w .tail) ≡ 100) where
   small-by : (v : Verdict) → fillFault w l n size ≡ v
-      → Small (answerOf v (usedOf (formatOf (w .format)) n (tailOf w) l)) (whenSound v (writerWith (w .format) (owesAfter (formatOf (w .format)) n (tailOf w) l)) w .len)
-  small-by Sound e = (used-low w l n size long e, owes-low w l n size long e)
-  small-by (Faulty c p) e = fault-place w l n size c p e
+      → Small (answerOf v (usedOf (formatOf (w .format)) n (tailOf w) l)) (whenAccepted v (writerWith (w .format) (owesAfter (formatOf (w .format)) n (tailOf w) l)) w .len)
+  small-by Accepted e = (used-low w l n size long e, owes-low w l n size long e)
+  small-by (Refused c p) e = fault-place w l n size c p e
 
   fill-small : Small (filling w l n size .answer) (filling w l n size .writer .len)
   unfolding filling
@@ -141,10 +141,10 @@ module _ (w : Writer) (l : List ℕ) (n : Grant) (size : ℕ) (long : length (w 
   step-small s e = subst (λ (x : Step). Small (x .answer) (x .writer .len)) (sym e) fill-small
 
 -- what that says of an answer that is told
-pub filled-small : (a : Answer) (u n : ℕ) → a ≡ Filled u → Small a n → (u ≤ 4096) × (n ≤ 100)
+pub filled-small : (a : Answer) (u n : ℕ) → a ≡ fill.Accepted u → Small a n → (u ≤ 4096) × (n ≤ 100)
 filled-small a u n e h = subst (λ (x : Answer). Small x n) e h
 
-pub refused-small : (a : Answer) (k : Cause) (p n x : ℕ) → a ≡ Refused k p → Small a n → x ≡ causeNumber k → (p ≤ 4096) × (x ≤ 19)
+pub refused-small : (a : Answer) (k : Cause) (p n x : ℕ) → a ≡ fill.Refused k p → Small a n → x ≡ causeNumber k → (p ≤ 4096) × (x ≤ 19)
 refused-small a k p n x e h ex = let m = number-most k in (subst (λ (y : Answer). Small y n) e h, omega arith)
 
 -- ---- the outcome of a call

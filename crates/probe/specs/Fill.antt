@@ -10,7 +10,7 @@ use Rattle.container.specs.declared.grant.Grant.{Grant}
 use Rattle.writer.specs.Filling.{filling, fillBytes}
 use Rattle.writer.specs.declared.writer.Writer.{Writer}
 use Rattle.writer.specs.declared.writer.Answer.{Answer}
-use Rattle.writer.specs.declared.writer.Answer.the-variants.{Filled, Refused}
+use Rattle.writer.specs.declared.writer.Answer.the-variants.{Accepted, Refused}
 use Rattle.writer.specs.declared.writer.Step.{Step}
 
 -- the grant of six bytes ShC, RP, REQ, RSP, SNP and DAT
@@ -30,12 +30,12 @@ writerFrom f n t = record { format = f; tail = t; len = n }
 
 -- bytes used·256 + the tail's new length, or cause·4,294,967,296 + place
 abbrev pub answerCode : Answer → ℕ → ℕ
-answerCode (Filled used) len = used * 256 + len
+answerCode (Accepted used) len = used * 256 + len
 answerCode (Refused c p) len = causeNumber c * 4_294_967_296 + p
 
 -- the numbers of an answer are small
 abbrev pub Small : Answer → ℕ → Type 0
-Small (Filled used) len = (used ≤ 4096) × (len ≤ 100)
+Small (Accepted used) len = (used ≤ 4096) × (len ≤ 100)
 Small (Refused c p) len = p ≤ 4096
 
 -- a tail array of 100 bytes, and a grant of six, of which ShC is 0 or 1

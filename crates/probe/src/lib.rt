@@ -8,7 +8,7 @@ ghost use Rattle.probe.specs.Fill.{grantFrom, Small, answerCode, fillCod
 use cause::number_cause;
 use container::Grant;
 use feeder::Feed;
-use reader::Judgement;
+use reader::JudgeAnswer;
 use reader::Reader;
 use slices::byte_at;
 use slices::copy_into;
@@ -20,16 +20,16 @@ use writer::Writer;
 pub extern "C" fn c2c_judge(format: u32, container: &[u8]) -> u32
     ensures { λ r. ⌜ r ≡ judgeCode format (now (container .entry)) ⌝ }
 {
-    let opened = Reader::fresh(format);
-    let reader = opened.reader;
+    let created = Reader::fresh(format);
+    let reader = created.reader;
     let judged = reader.judge(container);
-    let judgement = judged.judgement;
-    match judgement {
-        Judgement::Accepted {
+    let answer = judged.answer;
+    match answer {
+        JudgeAnswer::Accepted {
             grant: _,
-            starts: _,
+            msgstart: _,
         } => 0,
-        Judgement::Refused { cause, place } => number_cause(cause) * 65536 + place as u32,
+        JudgeAnswer::Refused { cause, place } => number_cause(cause) * 65536 + place as u32,
     }
 }
 
@@ -63,7 +63,7 @@ fn encode_answer(answer: Answer, len: usize) -> u64
     ensures { λ r. ⌜ r ≡ answerCode answer len ⌝ }
 {
     match answer {
-        Answer::Filled { used } => used as u64 * 256 + len as u64,
+        Answer::Accepted { used } => used as u64 * 256 + len as u64,
         Answer::Refused { cause, place } => number_cause(cause) as u64 * 4294967296 + place,
     }
 }

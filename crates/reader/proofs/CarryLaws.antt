@@ -15,8 +15,8 @@ use Rattle.lists.proofs.Tests.{cases, T-true, true-T, and-left, and-right, or-t
 use Rattle.lists.proofs.PartLaws.{length-zero}
 use Rattle.lists.proofs.ZeroLaws.{zeros-replicate}
 use Rattle.cause.specs.Checks.{Pass, firstFault}
-use Rattle.cause.specs.declared.Verdict.the-variants.{Sound}
-use Rattle.cause.proofs.CheckLaws.{sound-pass, pass-front, pass-back}
+use Rattle.cause.specs.declared.Verdict.the-variants.{Accepted}
+use Rattle.cause.proofs.CheckLaws.{accepted-pass, pass-front, pass-back}
 use Rattle.container.specs.Layout.{Format, formatOf, wide, granule}
 use Rattle.container.proofs.Formats.{lawful-of, granule-length}
 use Rattle.message.specs.Heads.{msgSize, wellHeaded}
@@ -277,10 +277,10 @@ with-valid f m e h l =
     rw (e, le-leb (length m) 100 l, take-at m behind (length m) refl, h, drop-at m behind (length m) refl, zeros-replicate (100 - length m))
 
 -- the reader after a container that is accepted is valid again
-pub next-valid : (s : Reader) (c : List ℕ) → firstFault (judgeChecks s c) ≡ Sound → readerOk (nextReader s c) ≡ true
+pub next-valid : (s : Reader) (c : List ℕ) → firstFault (judgeChecks s c) ≡ Accepted → readerOk (nextReader s c) ≡ true
 unfolding nextReader judgeChecks stateChecks
 next-valid s c e =
-    let p = sound-pass (judgeChecks s c) e in
+    let p = accepted-pass (judgeChecks s c) e in
     let r = reader-ok s (p .0) in
     let es = cells (formatOf (s .format)) c 12 0 (carried s) in
     let v = carry-valid (s .format) c (carried s) (eqb-true (length c) 256 (p .1 .0)) (r .carry) (granules-pass (formatOf (s .format)) c es (p .1 .1)) in

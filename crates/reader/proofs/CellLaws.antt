@@ -13,25 +13,25 @@ use Rattle.cause.specs.declared.Cause.the-variants.{StartInsideMessage, Unknown
 use Rattle.container.specs.Layout.{Format, formatOf, wide, start, granule}
 use Rattle.message.specs.Heads.{msgSize, sizeBy, wellHeaded}
 use Rattle.message.specs.Places.{placed, placedBy}
-use Rattle.reader.specs.declared.cell.Finding.{Finding}
-use Rattle.reader.specs.declared.cell.Finding.the-variants.{Fault, Mark}
-use Rattle.reader.specs.TrackingMirror.{cellFrom, finding, startMark}
+use Rattle.reader.specs.declared.cell.CellAnswer.{CellAnswer}
+use Rattle.reader.specs.declared.cell.CellAnswer.the-variants as judged
+use Rattle.reader.specs.TrackingMirror.{cellFrom, cellAnswer, startMark}
 
 module _ (fm : Format) (g : ℕ) (b : List ℕ) where
-  pub twice : Fault StartInsideMessage ≡ finding fm g (cellFrom true true b)
-  unfolding finding
+  pub twice : judged.Refused StartInsideMessage ≡ cellAnswer fm g (cellFrom true true b)
+  unfolding cellAnswer
   twice = refl
 
-  pub on-fine : length b ≤ 20 → Mark 1 0 ≡ finding fm g (cellFrom true false b)
-  unfolding finding
+  pub on-fine : length b ≤ 20 → judged.Accepted 1 0 ≡ cellAnswer fm g (cellFrom true false b)
+  unfolding cellAnswer
   on-fine h = rw (drop-of-length-le b h)
 
-  pub empty-fine : zeros b ≡ true → Mark 0 0 ≡ finding fm g (cellFrom false false b)
-  unfolding finding
+  pub empty-fine : zeros b ≡ true → judged.Accepted 0 0 ≡ cellAnswer fm g (cellFrom false false b)
+  unfolding cellAnswer
   empty-fine e = rw e
 
-  pub empty-not : zeros b ≡ false → Fault UnusedByteNotZero ≡ finding fm g (cellFrom false false b)
-  unfolding finding
+  pub empty-not : zeros b ≡ false → judged.Refused UnusedByteNotZero ≡ cellAnswer fm g (cellFrom false false b)
+  unfolding cellAnswer
   empty-not e = rw e
 
   -- a message starts, by its first two bytes and its size as the code has them
@@ -39,8 +39,8 @@ module _ (fm : Format) (g : ℕ) (b : List ℕ) where
     size-is : msgSize b ≡ size
     size-is = rw (ez, ef, es)
 
-    pub unknown : size ≡ 0 → Fault UnknownMessage ≡ finding fm g (cellFrom false true b)
-    unfolding finding
+    pub unknown : size ≡ 0 → judged.Refused UnknownMessage ≡ cellAnswer fm g (cellFrom false true b)
+    unfolding cellAnswer
     unknown z = rw (size-is ∙ z)
 
     module _ (d : size ≡ 0 → ⊥) {allowed : Bool} (ep : allowed ≡ placedBy fm g (first % 16) second) where
@@ -50,25 +50,25 @@ module _ (fm : Format) (g : ℕ) (b : List ℕ) where
       placed-is : placed fm g b ≡ allowed
       placed-is = rw (ep, ef, es)
 
-      pub misplaced : not allowed ≡ true → Fault PlaceNotAllowed ≡ finding fm g (cellFrom false true b)
-      unfolding finding
+      pub misplaced : not allowed ≡ true → judged.Refused PlaceNotAllowed ≡ cellAnswer fm g (cellFrom false true b)
+      unfolding cellAnswer
       misplaced p = rw (has-size, placed-is ∙ not-true allowed p)
 
       module _ (p : not allowed ≡ false) {headed : Bool} (eh : headed ≡ wellHeaded b) where
-        pub misheaded : not headed ≡ true → Fault HeadWrong ≡ finding fm g (cellFrom false true b)
-        unfolding finding
+        pub misheaded : not headed ≡ true → judged.Refused HeadWrong ≡ cellAnswer fm g (cellFrom false true b)
+        unfolding cellAnswer
         misheaded h = rw (has-size, placed-is ∙ not-false allowed p, sym eh ∙ not-true headed h)
 
         module _ (h : not headed ≡ false) {rest : Bool} (er : rest ≡ zeros (drop size b)) where
           rest-is : zeros (drop (msgSize b) b) ≡ rest
           rest-is = rw (size-is, er)
 
-          pub start-not : not rest ≡ true → Fault UnusedByteNotZero ≡ finding fm g (cellFrom false true b)
-          unfolding finding
+          pub start-not : not rest ≡ true → judged.Refused UnusedByteNotZero ≡ cellAnswer fm g (cellFrom false true b)
+          unfolding cellAnswer
           start-not z = rw (has-size, placed-is ∙ not-false allowed p, sym eh ∙ not-false headed h, rest-is ∙ not-true rest z)
 
-          pub start-fine : not rest ≡ false → {mark : ℕ} → mark ≡ startMark (first % 16) second → Mark mark size ≡ finding fm g (cellFrom false true b)
-          unfolding finding
+          pub start-fine : not rest ≡ false → {mark : ℕ} → mark ≡ startMark (first % 16) second → judged.Accepted mark size ≡ cellAnswer fm g (cellFrom false true b)
+          unfolding cellAnswer
           start-fine z k = rw (has-size, placed-is ∙ not-false allowed p, sym eh ∙ not-false headed h, rest-is ∙ not-false rest z, k, ez, ef, es)
 
 -- the part that the code takes of granule g
@@ -80,6 +80,6 @@ pub on-wide : (on : Bool) (owed n k : ℕ) → on ≡ (ltb 0 owed && eqb n 20) �
 on-wide on owed n k e q t = sym q ∙ eqb-true n 20 (and-right (ltb 0 owed) (eqb n 20) (sym e ∙ t))
 
 -- equal parts make equal cells
-pub same-finding : (f g owed : ℕ) {on : Bool} {n : ℕ} → on ≡ (ltb 0 owed && eqb n 20) → n ≡ formatOf f .size g → {s t : Bool} → s ≡ t → {a b : List ℕ} → a ≡ b → {r : Finding} → r ≡ finding (formatOf f) g (cellFrom on s a) → r ≡ finding (formatOf f) g (cellFrom (ltb 0 owed && wide (formatOf f) g) t b)
-same-finding f g owed eo en es eb er =
-    let x = eo ∙ ap (λ (k : ℕ). ltb 0 owed && eqb k 20) en in er ∙ (λ i. finding (formatOf f) g (cellFrom (x i) (es i) (eb i)))
+pub same-answer : (f g owed : ℕ) {on : Bool} {n : ℕ} → on ≡ (ltb 0 owed && eqb n 20) → n ≡ formatOf f .size g → {s t : Bool} → s ≡ t → {a b : List ℕ} → a ≡ b → {r : CellAnswer} → r ≡ cellAnswer (formatOf f) g (cellFrom on s a) → r ≡ cellAnswer (formatOf f) g (cellFrom (ltb 0 owed && wide (formatOf f) g) t b)
+same-answer f g owed eo en es eb er =
+    let x = eo ∙ ap (λ (k : ℕ). ltb 0 owed && eqb k 20) en in er ∙ (λ i. cellAnswer (formatOf f) g (cellFrom (x i) (es i) (eb i)))

@@ -11,7 +11,7 @@ use Rattle.cause.specs.Checks.{check, firstFault, orElse}
 use Rattle.cause.specs.declared.Cause.{Cause}
 use Rattle.cause.specs.declared.Cause.the-variants.{GrantBesideActivation}
 use Rattle.cause.specs.declared.Verdict.{Verdict}
-use Rattle.cause.specs.declared.Verdict.the-variants.{Sound, Faulty}
+use Rattle.cause.specs.declared.Verdict.the-variants.{Accepted, Refused}
 use Rattle.cause.proofs.CheckLaws.{first-append}
 use Rattle.container.specs.Layout.{Format, formatOf}
 use Rattle.container.specs.Grants.{headerGrant, noCounts}
@@ -42,17 +42,17 @@ module _ (grant : Grant) (l : List ℕ) {groups : Verdict} (eg : groups ≡ firs
   joined : firstFault (behindGranules grant l) ≡ orElse groups (firstFault (check quietBy GrantBesideActivation 0 ∷ []))
   joined = rw eg (first-append (markChecks 4 0 l) (check quietBy GrantBesideActivation 0 ∷ []))
 
-  pub groups-fail : {k : Cause} {p : ℕ} → groups ≡ Faulty k p → groups ≡ firstFault (behindGranules grant l)
+  pub groups-fail : {k : Cause} {p : ℕ} → groups ≡ Refused k p → groups ≡ firstFault (behindGranules grant l)
   groups-fail e = rw (joined, e)
 
-  module _ (s : groups ≡ Sound) {quiet : Bool} (eq : quiet ≡ quietBy) where
+  module _ (s : groups ≡ Accepted) {quiet : Bool} (eq : quiet ≡ quietBy) where
     left : firstFault (behindGranules grant l) ≡ firstFault (check quiet GrantBesideActivation 0 ∷ [])
     left = joined ∙ rw (s, eq)
 
-    pub beside : not quiet ≡ true → Faulty GrantBesideActivation 0 ≡ firstFault (behindGranules grant l)
+    pub beside : not quiet ≡ true → Refused GrantBesideActivation 0 ≡ firstFault (behindGranules grant l)
     beside q = rw (left, not-true quiet q)
 
-    pub behind-fine : not quiet ≡ false → Sound ≡ firstFault (behindGranules grant l)
+    pub behind-fine : not quiet ≡ false → Accepted ≡ firstFault (behindGranules grant l)
     behind-fine q = rw (left, not-false quiet q)
 
 -- a container whose cells are judged
@@ -78,17 +78,17 @@ module _ (f : ℕ) (c m : List ℕ) {header : Verdict} (eh : header ≡ firstFau
       first-append (headerChecks (formatOf f) c) (granuleChecks (formatOf f) 0 es ++ (groupChecks 4 0 es ++ activationChecks (formatOf f) c es))
       ∙ rw (eh, first-append (granuleChecks (formatOf f) 0 es) (groupChecks 4 0 es ++ activationChecks (formatOf f) c es))
 
-  pub header-fails : {k : Cause} {p : ℕ} → header ≡ Faulty k p → {marks : List ℕ} {track : Track} → Looked f c m (record { verdict = header; marks = marks; track = track })
+  pub header-fails : {k : Cause} {p : ℕ} → header ≡ Refused k p → {marks : List ℕ} {track : Track} → Looked f c m (record { verdict = header; marks = marks; track = track })
   header-fails {k} {p} e = record { verdict = rw (parts-joined, e); track = λ s. absurd (never s) }
     where
-      never : header ≡ Sound → ⊥
+      never : header ≡ Accepted → ⊥
       never s = let z : _≡_ {A = ℕ} 0 1 = cc in omega arith
 
-  module _ (s : header ≡ Sound) {r : Scan} (scan : Scanned f c m r) where
-    pub granules-fail : {k : Cause} {p : ℕ} → r .verdict ≡ Faulty k p → Looked f c m r
+  module _ (s : header ≡ Accepted) {r : Scan} (scan : Scanned f c m r) where
+    pub granules-fail : {k : Cause} {p : ℕ} → r .verdict ≡ Refused k p → Looked f c m r
     granules-fail e = record { verdict = rw (parts-joined, s, ← scan .verdict, e); track = scan .track }
 
-    pub marks-judged : r .verdict ≡ Sound → {grant : Grant} → grant ≡ headerGrant (formatOf f) c → {v : Verdict} → v ≡ firstFault (behindGranules grant (r .marks)) → {marks : List ℕ} → Looked f c m (record { verdict = v; marks = marks; track = r .track })
+    pub marks-judged : r .verdict ≡ Accepted → {grant : Grant} → grant ≡ headerGrant (formatOf f) c → {v : Verdict} → v ≡ firstFault (behindGranules grant (r .marks)) → {marks : List ℕ} → Looked f c m (record { verdict = v; marks = marks; track = r .track })
     marks-judged e {grant} eg {v} ev = record {
       verdict =
           ev ∙ (λ i. firstFault (behindGranules (eg i) (scan .marks e i)))

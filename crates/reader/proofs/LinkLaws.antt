@@ -12,7 +12,7 @@ use borrow.Author.Tests.{lt-ltb, le-leb, eq-eqb}
 use Rattle.lists.specs.Pick.{pick}
 use Rattle.lists.proofs.Tests.{and-both}
 use Rattle.lists.proofs.PartLaws.{part-same}
-use Rattle.cause.specs.Checks.{firstFault, whenSound}
+use Rattle.cause.specs.Checks.{firstFault, whenAccepted}
 use Rattle.container.specs.Layout.{Format, formatOf, start, granule, header, msgStart}
 use Rattle.container.specs.Lawful.{Lawful, inGranule, howMany}
 use Rattle.container.specs.Grants.{headerGrant}
@@ -20,7 +20,7 @@ use Rattle.container.specs.declared.grant.Grant.{Grant}
 use Rattle.container.proofs.Formats.{lawful-of}
 use Rattle.placement.specs.Cells.{Cell, cellAt, after, cells}
 use Rattle.placement.specs.Checking.{containerChecks}
-use Rattle.reader.specs.Reading.{carried, stateChecks, judgeChecks, readChecks, nextReader, records, answerOf, reading, readRoom, judgementOf, judging}
+use Rattle.reader.specs.Reading.{carried, stateChecks, judgeChecks, readChecks, nextReader, records, answerOf, reading, readRoom, judgeAnswerOf, judging}
 use Rattle.reader.specs.declared.reader.Reader.{Reader}
 
 -- one that passes is counted
@@ -107,17 +107,17 @@ module _ (s : Reader) (c d : List ℕ) (nc : length c ≡ 256) (nd : length d �
   unfolding reading
   reading-same n =
       rw (read-same n, next-same, records-same)
-      (ap (λ (grant : Grant). record { reader = whenSound (firstFault (readChecks s d n)) (nextReader s d) s; answer = answerOf (firstFault (readChecks s d n)) (length (records s d)) grant }) header-grant-same)
+      (ap (λ (grant : Grant). record { reader = whenAccepted (firstFault (readChecks s d n)) (nextReader s d) s; answer = answerOf (firstFault (readChecks s d n)) (length (records s d)) grant }) header-grant-same)
 
   -- the same room
   pub room-same : (room : List ℕ) → readRoom s c room ≡ readRoom s d room
   unfolding readRoom
   room-same room = rw (read-same (length room), records-same)
 
-  -- the same judgement and next reader
+  -- the same answer and next reader
   pub judging-same : judging s c ≡ judging s d
   unfolding judging
   judging-same =
       rw (judged-same, next-same)
-      (ap (λ (grant : Grant). record { reader = whenSound (firstFault (judgeChecks s d)) (nextReader s d) s; judgement = judgementOf (firstFault (judgeChecks s d)) grant (msgStart fm c) }) header-grant-same
-      ∙ ap (λ (starts : ℕ). record { reader = whenSound (firstFault (judgeChecks s d)) (nextReader s d) s; judgement = judgementOf (firstFault (judgeChecks s d)) (headerGrant fm d) starts }) (starts-same fm (lawful-of (s .format)) c d nc nd same))
+      (ap (λ (grant : Grant). record { reader = whenAccepted (firstFault (judgeChecks s d)) (nextReader s d) s; answer = judgeAnswerOf (firstFault (judgeChecks s d)) grant (msgStart fm c) }) header-grant-same
+      ∙ ap (λ (starts : ℕ). record { reader = whenAccepted (firstFault (judgeChecks s d)) (nextReader s d) s; answer = judgeAnswerOf (firstFault (judgeChecks s d)) (headerGrant fm d) starts }) (starts-same fm (lawful-of (s .format)) c d nc nd same))

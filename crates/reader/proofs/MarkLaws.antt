@@ -13,7 +13,7 @@ use Rattle.lists.proofs.PickLaws.{pick-both}
 use Rattle.cause.specs.Checks.{firstFault, orElse}
 use Rattle.cause.specs.declared.Cause.{Cause}
 use Rattle.cause.specs.declared.Verdict.{Verdict}
-use Rattle.cause.specs.declared.Verdict.the-variants.{Sound, Faulty}
+use Rattle.cause.specs.declared.Verdict.the-variants.{Accepted, Refused}
 use Rattle.cause.proofs.CheckLaws.{first-append}
 use Rattle.message.specs.Heads.{typeOf}
 use Rattle.message.specs.Places.{responsesBy, responses, miscsBy, miscs}
@@ -148,13 +148,13 @@ module _ (l : List ℕ) (q : ℕ) (h : q < 4) {all v : Verdict} (ea : all ≡ fi
       let e : 4 - q ≡ suc (4 - (q + 1)) = omega arith in
       rw (ea, e, ev) (first-append (groupBy q (getD l (3 * q) 0) (getD l (3 * q + 1) 0) (getD l (3 * q + 2) 0)) (markChecks (4 - (q + 1)) (q + 1) l))
 
-  pub groups-stop : {k : Cause} {p : ℕ} → v ≡ Faulty k p → v ≡ all
+  pub groups-stop : {k : Cause} {p : ℕ} → v ≡ Refused k p → v ≡ all
   groups-stop e = rw (turn, e)
 
-  pub groups-go-on : v ≡ Sound → all ≡ firstFault (markChecks (4 - (q + 1)) (q + 1) l)
+  pub groups-go-on : v ≡ Accepted → all ≡ firstFault (markChecks (4 - (q + 1)) (q + 1) l)
   groups-go-on e = rw e at turn
 
-pub groups-end : (l : List ℕ) (q : ℕ) → 4 ≤ q → firstFault (markChecks (4 - q) q l) ≡ Sound
+pub groups-end : (l : List ℕ) (q : ℕ) → 4 ≤ q → firstFault (markChecks (4 - q) q l) ≡ Accepted
 unfolding markChecks
 groups-end l q h = let e : 4 - q ≡ 0 = omega arith in rw e
 

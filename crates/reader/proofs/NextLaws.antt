@@ -7,8 +7,8 @@ use native.Mathlib.Omega.{arith}
 use lib.ListN.{length, take, drop, length-take}
 use borrow.Author.Tests.{leb-true}
 use Rattle.cause.specs.Checks.{Pass, firstFault}
-use Rattle.cause.specs.declared.Verdict.the-variants.{Sound}
-use Rattle.cause.proofs.CheckLaws.{sound-pass}
+use Rattle.cause.specs.declared.Verdict.the-variants.{Accepted}
+use Rattle.cause.proofs.CheckLaws.{accepted-pass}
 use Rattle.container.specs.Layout.{Format, formatOf, msgStart}
 use Rattle.record.specs.Records.{recordsOf}
 use Rattle.placement.specs.Cells.{cells, endings, carryOk}
@@ -82,14 +82,14 @@ module _ (s : Reader) (c : List ℕ) (r : Scan) (looked : Looked (s .format) c (
   unfolding stateChecks
   looked-verdict = seen .verdict
 
-  pub looked-track : r .verdict ≡ Sound → r .track ≡ trackAt (formatOf (s .format)) c (msgStart (formatOf (s .format)) c) (trackOf (carried s)) 12
+  pub looked-track : r .verdict ≡ Accepted → r .track ≡ trackAt (formatOf (s .format)) c (msgStart (formatOf (s .format)) c) (trackOf (carried s)) 12
   looked-track = seen .track
 
-  pub looked-pass : r .verdict ≡ Sound → Pass (granuleChecks (formatOf (s .format)) 0 (cells (formatOf (s .format)) c 12 0 (carried s)))
+  pub looked-pass : r .verdict ≡ Accepted → Pass (granuleChecks (formatOf (s .format)) 0 (cells (formatOf (s .format)) c 12 0 (carried s)))
   unfolding stateChecks
   looked-pass e =
       granules-pass (formatOf (s .format)) c (cells (formatOf (s .format)) c 12 0 (carried s))
-      (sound-pass (stateChecks s c) (sym looked-verdict ∙ e))
+      (accepted-pass (stateChecks s c) (sym looked-verdict ∙ e))
 
 -- the records of a reader's container, with its carry as the code takes it
 pub records-part : (s : Reader) (c : List ℕ)

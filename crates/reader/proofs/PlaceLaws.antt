@@ -8,15 +8,15 @@ use native.Mathlib.Omega.{arith}
 use Rattle.lists.proofs.Tests.{cases}
 use Rattle.cause.specs.Checks.{Check, firstFault}
 use Rattle.cause.specs.declared.Cause.{Cause}
-use Rattle.cause.specs.declared.Verdict.the-variants.{Faulty}
+use Rattle.cause.specs.declared.Verdict.the-variants.{Refused}
 use Rattle.container.specs.Layout.{Format, formatOf}
 use Rattle.placement.specs.Cells.{Cell, cells, cellAt, after}
 use Rattle.placement.specs.Checking.{granuleChecks, groupChecks, activationChecks, containerChecks}
 use Rattle.reader.specs.Reading.{carried, stateChecks, readChecks, judgeChecks, reading, judging}
 use Rattle.reader.specs.declared.reader.Reader.{Reader}
 use Rattle.reader.specs.declared.reader.Answer.the-variants as answer
-use Rattle.reader.specs.declared.reader.Judgement.the-variants as judgement
-use Rattle.reader.proofs.AnswerLaws.{reading-faulty, judging-faulty}
+use Rattle.reader.specs.declared.reader.JudgeAnswer.the-variants as judge
+use Rattle.reader.proofs.AnswerLaws.{read-answer-refused, judge-answer-refused}
 
 -- the place of each check is below n
 abbrev Below : ℕ → List Check → Type 0
@@ -27,14 +27,14 @@ below-append : (n : ℕ) (a b : List Check) → Below n a → Below n b → Belo
 below-append n [] b p q = q
 below-append n (k ∷ a) b p q = (p .0, below-append n a b (p .1) q)
 
-first-below : (n : ℕ) (l : List Check) → Below n l → (k : Cause) (p : ℕ) → firstFault l ≡ Faulty k p → p < n
+first-below : (n : ℕ) (l : List Check) → Below n l → (k : Cause) (p : ℕ) → firstFault l ≡ Refused k p → p < n
 first-below n [] b k p e = let z : _≡_ {A = ℕ} 0 1 = cc in absurd (omega arith)
 first-below n (x ∷ l) b k p e =
     ⊎-elim (λ (t : x .passes ≡ true). first-below n l (b .1) k p (rw t at e))
     (λ (t : x .passes ≡ false). found (x .cause) (x .place) (b .0) (rw t at e))
     (cases (x .passes))
   where
-    found : (c : Cause) (q : ℕ) → q < n → Faulty c q ≡ Faulty k p → p < n
+    found : (c : Cause) (q : ℕ) → q < n → Refused c q ≡ Refused k p → p < n
     found c q h f = let w : q ≡ p = cc in omega arith
 
 granules-below : (fm : Format) (c : List ℕ) (k g : ℕ) (m : List ℕ) → g + k ≤ 12 → Below 12 (granuleChecks fm g (cells fm c k g m))
@@ -74,9 +74,9 @@ judge-below s c = let z : 0 < 12 = omega arith in (z, (z, state-below s c))
 -- the place of a refused reading
 pub refused-place : (s : Reader) (c : List ℕ) (n : ℕ) (k : Cause) (p : ℕ) → reading s c n .answer ≡ answer.Refused k p → p < 12
 unfolding reading
-refused-place s c n k p e = first-below 12 (readChecks s c n) (read-below s c n) k p (reading-faulty (firstFault (readChecks s c n)) _ _ k p e)
+refused-place s c n k p e = first-below 12 (readChecks s c n) (read-below s c n) k p (read-answer-refused (firstFault (readChecks s c n)) _ _ k p e)
 
 -- the place of a refused judging
-pub judged-place : (s : Reader) (c : List ℕ) (k : Cause) (p : ℕ) → judging s c .judgement ≡ judgement.Refused k p → p < 12
+pub judged-place : (s : Reader) (c : List ℕ) (k : Cause) (p : ℕ) → judging s c .answer ≡ judge.Refused k p → p < 12
 unfolding judging
-judged-place s c k p e = first-below 12 (judgeChecks s c) (judge-below s c) k p (judging-faulty (firstFault (judgeChecks s c)) _ _ k p e)
+judged-place s c k p e = first-below 12 (judgeChecks s c) (judge-below s c) k p (judge-answer-refused (firstFault (judgeChecks s c)) _ _ k p e)

@@ -9,15 +9,15 @@ use borrow.Author.Tests.{lt-leb, ne-eqb, leb-false, eqb-false}
 use Rattle.cause.specs.Checks.{firstFault}
 use Rattle.cause.specs.declared.Cause.{Cause}
 use Rattle.cause.specs.declared.Verdict.{Verdict}
-use Rattle.cause.specs.declared.Verdict.the-variants.{Sound, Faulty}
+use Rattle.cause.specs.declared.Verdict.the-variants.{Accepted, Refused}
 use Rattle.container.specs.Layout.{Format, formatOf, msgStart}
 use Rattle.container.specs.Grants.{headerGrant}
 use Rattle.container.specs.declared.grant.Grant.{Grant}
-use Rattle.reader.specs.Reading.{carried, stateChecks, judgeChecks, readChecks, records, answerOf, reading, judgementOf, judging}
+use Rattle.reader.specs.Reading.{carried, stateChecks, judgeChecks, readChecks, records, answerOf, reading, judgeAnswerOf, judging}
 use Rattle.reader.specs.declared.reader.Reader.{Reader}
 use Rattle.reader.specs.declared.reader.Answer.the-variants as answer
-use Rattle.reader.specs.declared.reader.Judgement.the-variants as judgement
-use Rattle.reader.proofs.AnswerLaws.{reading-faulty, judging-faulty, judging-sound}
+use Rattle.reader.specs.declared.reader.JudgeAnswer.the-variants as judge
+use Rattle.reader.proofs.AnswerLaws.{read-answer-refused, judge-answer-refused, judge-answer-accepted}
 use Rattle.cause.proofs.NamedLaws.{turnOf}
 use Rattle.reader.proofs.CellFaults.{ReadCells}
 use Rattle.cause.proofs.FirstLaws.{Fails, First, None, Lists, rises-from, listed-first, listed-none}
@@ -56,12 +56,12 @@ module _ (s : Reader) (c : List ℕ) where
       complete = λ r k p f. subst (λ (t : ℕ). Fails t k p (ranked (readChecks s c n))) (f .0) (read-complete k p (f .1));
     }
 
-    refused-as : (v : Verdict) (a : ℕ) (g : Grant) (k : Cause) (p : ℕ) → (answerOf v a g ≡ answer.Refused k p) ↔ (v ≡ Faulty k p)
-    refused-as v a g k p = (reading-faulty v a g k p, λ e. rw e)
+    refused-as : (v : Verdict) (a : ℕ) (g : Grant) (k : Cause) (p : ℕ) → (answerOf v a g ≡ answer.Refused k p) ↔ (v ≡ Refused k p)
+    refused-as v a g k p = (read-answer-refused v a g k p, λ e. rw e)
 
-    done-as : (v : Verdict) (a : ℕ) (g : Grant) → (answerOf v a g ≡ answer.Done a g) ↔ (v ≡ Sound)
-    done-as Sound a g = (λ e. refl, λ e. refl)
-    done-as (Faulty k p) a g = (λ e. let z : _≡_ {A = ℕ} 0 1 = cc in absurd (omega arith), λ e. let z : _≡_ {A = ℕ} 0 1 = cc in absurd (omega arith))
+    done-as : (v : Verdict) (a : ℕ) (g : Grant) → (answerOf v a g ≡ answer.Accepted a g) ↔ (v ≡ Accepted)
+    done-as Accepted a g = (λ e. refl, λ e. refl)
+    done-as (Refused k p) a g = (λ e. let z : _≡_ {A = ℕ} 0 1 = cc in absurd (omega arith), λ e. let z : _≡_ {A = ℕ} 0 1 = cc in absurd (omega arith))
 
     -- a reading refuses with a cause and a place exactly where it is the first fault
     pub read-first : (k : Cause) (p : ℕ) → (reading s c n .answer ≡ answer.Refused k p) ↔ First (Ranked (ReadCells s c n)) k p
@@ -71,7 +71,7 @@ module _ (s : Reader) (c : List ℕ) where
         (listed-first read-lists k p)
 
     -- and accepts exactly where there is none
-    pub read-none : (reading s c n .answer ≡ answer.Done (length (records s c)) (headerGrant fm c)) ↔ None (Ranked (ReadCells s c n))
+    pub read-none : (reading s c n .answer ≡ answer.Accepted (length (records s c)) (headerGrant fm c)) ↔ None (Ranked (ReadCells s c n))
     unfolding reading
     read-none =
         chain (done-as (firstFault (readChecks s c n)) (length (records s c)) (headerGrant fm c))
@@ -98,19 +98,19 @@ module _ (s : Reader) (c : List ℕ) where
     complete = λ r k p f. subst (λ (t : ℕ). Fails t k p (ranked (judgeChecks s c))) (f .0) (judge-complete k p (f .1));
   }
 
-  judged-as : (v : Verdict) (g : Grant) (w : ℕ) (k : Cause) (p : ℕ) → (judgementOf v g w ≡ judgement.Refused k p) ↔ (v ≡ Faulty k p)
-  judged-as v g w k p = (judging-faulty v g w k p, λ e. rw e)
+  judged-as : (v : Verdict) (g : Grant) (w : ℕ) (k : Cause) (p : ℕ) → (judgeAnswerOf v g w ≡ judge.Refused k p) ↔ (v ≡ Refused k p)
+  judged-as v g w k p = (judge-answer-refused v g w k p, λ e. rw e)
 
-  accepted-as : (v : Verdict) (g : Grant) (w : ℕ) → (judgementOf v g w ≡ judgement.Accepted g w) ↔ (v ≡ Sound)
-  accepted-as v g w = (λ e. judging-sound v g w g w e .0, λ e. rw e)
+  accepted-as : (v : Verdict) (g : Grant) (w : ℕ) → (judgeAnswerOf v g w ≡ judge.Accepted g w) ↔ (v ≡ Accepted)
+  accepted-as v g w = (λ e. judge-answer-accepted v g w g w e .0, λ e. rw e)
 
-  pub judge-first : (k : Cause) (p : ℕ) → (judging s c .judgement ≡ judgement.Refused k p) ↔ First (Ranked (ReadCells s c 352)) k p
+  pub judge-first : (k : Cause) (p : ℕ) → (judging s c .answer ≡ judge.Refused k p) ↔ First (Ranked (ReadCells s c 352)) k p
   unfolding judging
   judge-first k p =
       chain (judged-as (firstFault (judgeChecks s c)) (headerGrant fm c) (msgStart fm c) k p)
       (listed-first judge-lists k p)
 
-  pub judge-none : (judging s c .judgement ≡ judgement.Accepted (headerGrant fm c) (msgStart fm c)) ↔ None (Ranked (ReadCells s c 352))
+  pub judge-none : (judging s c .answer ≡ judge.Accepted (headerGrant fm c) (msgStart fm c)) ↔ None (Ranked (ReadCells s c 352))
   unfolding judging
   judge-none =
       chain (accepted-as (firstFault (judgeChecks s c)) (headerGrant fm c) (msgStart fm c))

@@ -27,10 +27,10 @@ use Rattle.placement.specs.Completion.{CarryEnds}
 use Rattle.reader.specs.ValidState.{Part, ValidState, HandsOut}
 use Rattle.reader.specs.declared.reader.Reader.{Reader}
 use Rattle.reader.specs.declared.reader.Answer.the-variants as answer
-use Rattle.reader.specs.declared.reader.Judgement.the-variants as judgement
+use Rattle.reader.specs.declared.reader.JudgeAnswer.the-variants as judge
 use Rattle.placement.proofs.ProgressLaws.{endings-of}
 use Rattle.reader.proofs.CarryLaws.{Half, Valid, valid-ok, ok-valid, reader-ok}
-use Rattle.reader.proofs.ReadLaws.{read-sound-exactly, read-exactly, judge-exactly}
+use Rattle.reader.proofs.ReadLaws.{read-accepted-exactly, read-exactly, judge-exactly}
 use Rattle.placement.proofs.RulesLaws.{rules-exactly, keeps-followed}
 use Rattle.placement.proofs.CompletionLaws.{in-order, carries-on}
 use Rattle.placement.proofs.NextEnds.{carry-ends}
@@ -90,11 +90,11 @@ module _ (s : Reader) (c : List ℕ) (valid : ValidState s) (size : length c ≡
 
   -- with the room named, a reading accepts exactly the containers that keep the rules
   pub read-rules : (room : ℕ) → 352 ≤ room
-      → (reading s c room .answer ≡ answer.Done (length (records s c)) (headerGrant (formatOf (s .format)) c)) ↔ Rules (formatOf (s .format)) (carried s) c
+      → (reading s c room .answer ≡ answer.Accepted (length (records s c)) (headerGrant (formatOf (s .format)) c)) ↔ Rules (formatOf (s .format)) (carried s) c
   read-rules room large = let r = read-exactly s c room ok size large in (λ e. rules .1 (r .0 e), λ k. r .1 (rules .0 k))
 
   -- and so does a judging
-  pub judge-rules : (judging s c .judgement ≡ judgement.Accepted (headerGrant (formatOf (s .format)) c) (msgStart (formatOf (s .format)) c)) ↔ Rules (formatOf (s .format)) (carried s) c
+  pub judge-rules : (judging s c .answer ≡ judge.Accepted (headerGrant (formatOf (s .format)) c) (msgStart (formatOf (s .format)) c)) ↔ Rules (formatOf (s .format)) (carried s) c
   judge-rules = let r = judge-exactly s c ok size in (λ e. rules .1 (r .0 e), λ k. r .1 (rules .0 k))
 
   -- the messages of an accepted container come out in order of completion, and the rest is carried on
@@ -108,10 +108,10 @@ module _ (s : Reader) (c : List ℕ) (valid : ValidState s) (size : length c ≡
         messages = endedTo (formatOf (s .format)) c (carried s) 12;
         order = in-order (formatOf (s .format)) (lawful-of (s .format)) (carried s) c size carry-valid (keeps .granules) all;
         written = out;
-        room = λ lent large. rw (read-sound-exactly s c (length lent) .1 (ok, size, large, keeps), out, zero-add (length (recordsOf (endedTo (formatOf (s .format)) c (carried s) 12))));
+        room = λ lent large. rw (read-accepted-exactly s c (length lent) .1 (ok, size, large, keeps), out, zero-add (length (recordsOf (endedTo (formatOf (s .format)) c (carried s) 12))));
         left = carryAfter (formatOf (s .format)) 0 (cells (formatOf (s .format)) c 12 0 (carried s)) (carried s);
         carries = carries-on (formatOf (s .format)) (lawful-of (s .format)) (carried s) c size carry-valid (keeps .granules) all;
-        next = λ n large. rw (read-sound-exactly s c n .1 (ok, size, large, keeps));
+        next = λ n large. rw (read-accepted-exactly s c n .1 (ok, size, large, keeps));
       }
 
   -- a carried message ends in this container, in one of its first five granules, whether it is accepted or not

@@ -20,7 +20,7 @@ use Rattle.reader.specs.Reading.{readerOk, carried, records, reading, ju
 use Rattle.placement.specs.Cells.{carryOk}
 use Rattle.reader.specs.declared.reader.Reader.{Reader}
 use Rattle.reader.specs.declared.reader.Answer.the-variants as answer
-use Rattle.reader.specs.declared.reader.Judgement.the-variants as judgement
+use Rattle.reader.specs.declared.reader.JudgeAnswer.the-variants as judge
 use Rattle.reader.proofs.CarryLaws.{reader-ok}
 use Rattle.reader.proofs.ReadRules.{state-exactly}
 use Rattle.reader.specs.Faults.{ReadFault, JudgeFault}
@@ -86,12 +86,12 @@ module _ (s : Reader) (c : List ℕ) (n : ℕ) where
   pub read-refused : (k : Cause) (p : ℕ) → (reading s c n .answer ≡ answer.Refused k p) ↔ Named (ReadFault s c n) k p
   read-refused k p = chain (read-first s c n k p) (first-named same k p)
 
-  pub read-accepted : (reading s c n .answer ≡ answer.Done (length (records s c)) (headerGrant fm c)) ↔ None (ReadFault s c n)
+  pub read-accepted : (reading s c n .answer ≡ answer.Accepted (length (records s c)) (headerGrant fm c)) ↔ None (ReadFault s c n)
   read-accepted = chain (read-none s c n) (none-named same)
 
 module _ (s : Reader) (c : List ℕ) where
-  pub judge-refused : (k : Cause) (p : ℕ) → (judging s c .judgement ≡ judgement.Refused k p) ↔ Named (JudgeFault s c) k p
+  pub judge-refused : (k : Cause) (p : ℕ) → (judging s c .answer ≡ judge.Refused k p) ↔ Named (JudgeFault s c) k p
   judge-refused k p = chain (judge-first s c k p) (first-named (same s c 352) k p)
 
-  pub judge-accepted : (judging s c .judgement ≡ judgement.Accepted (headerGrant (formatOf (s .format)) c) (msgStart (formatOf (s .format)) c)) ↔ None (JudgeFault s c)
+  pub judge-accepted : (judging s c .answer ≡ judge.Accepted (headerGrant (formatOf (s .format)) c) (msgStart (formatOf (s .format)) c)) ↔ None (JudgeFault s c)
   judge-accepted = chain (judge-none s c) (none-named (same s c 352))

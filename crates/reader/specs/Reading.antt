@@ -6,11 +6,11 @@ use lib.ListN.{length, take, drop}
 use lib.Dec.{eqb, ltb, leb}
 use Rattle.lists.specs.Pick.{pick}
 use Rattle.lists.specs.Parts.{zeros, pad, put}
-use Rattle.cause.specs.Checks.{Check, check, firstFault, whenSound}
+use Rattle.cause.specs.Checks.{Check, check, firstFault, whenAccepted}
 use Rattle.cause.specs.declared.Verdict.{Verdict}
-use Rattle.cause.specs.declared.Verdict.the-variants.{Sound, Faulty}
+use Rattle.cause.specs.declared.Verdict.the-variants.{Accepted, Refused}
 use Rattle.cause.specs.declared.Cause.the-variants.{ContainerLength, RoomTooSmall, InvalidState}
-use Rattle.container.specs.Layout.{formatOf, msgStart}
+use Rattle.container.specs.Layout.{formatOf, msgStart, containerSize, granules}
 use Rattle.container.specs.Grants.{headerGrant}
 use Rattle.container.specs.declared.grant.Grant.{Grant}
 use Rattle.record.specs.Records.{recordsOf}
@@ -21,10 +21,10 @@ use Rattle.reader.specs.declared.reader.Reader.{Reader}
 use Rattle.reader.specs.declared.reader.Answer.{Answer}
 use Rattle.reader.specs.declared.reader.Answer.the-variants as answer
 use Rattle.reader.specs.declared.reader.Step.{Step}
-use Rattle.reader.specs.declared.reader.Judgement.{Judgement}
-use Rattle.reader.specs.declared.reader.Judgement.the-variants as judgement
+use Rattle.reader.specs.declared.reader.JudgeAnswer.{JudgeAnswer}
+use Rattle.reader.specs.declared.reader.JudgeAnswer.the-variants as judge
 use Rattle.reader.specs.declared.reader.Judged.{Judged}
-use Rattle.reader.specs.declared.reader.Opened.{Opened}
+use Rattle.reader.specs.declared.reader.Created.{Created}
 
 -- the bytes of a carry
 abbrev pub bytesIn : Carry → List ℕ
@@ -51,16 +51,20 @@ abbrev pub readerWith : ℕ → List ℕ → Reader
 readerWith f m = record { format = f; carry = carryWith m }
 
 -- a reader's start: nothing carried; a format that is none is 19, beside a reader that every step refuses
-abbrev pub opened : ℕ → Opened
-opened f = record { reader = readerWith f []; verdict = pick (ltb f 2) Sound (Faulty InvalidState 0) }
+abbrev pub newReader : ℕ → Created
+newReader f = record { reader = readerWith f []; verdict = pick (ltb f 2) Accepted (Refused InvalidState 0) }
+
+-- the least room of a reading
+abbrev pub roomSize : ℕ
+roomSize = 352
 
 -- 19, 1
 abbrev pub entryChecks : Reader → ℕ → List Check
-entryChecks s n = check (readerOk s) InvalidState 0 ∷ check (eqb n 256) ContainerLength 0 ∷ []
+entryChecks s n = check (readerOk s) InvalidState 0 ∷ check (eqb n containerSize) ContainerLength 0 ∷ []
 
 -- the checks of a container from a state
 unfoldable pub stateChecks : Reader → List ℕ → List Check
-stateChecks s c = containerChecks (formatOf (s .format)) c (cells (formatOf (s .format)) c 12 0 (carried s))
+stateChecks s c = containerChecks (formatOf (s .format)) c (cells (formatOf (s .format)) c granules 0 (carried s))
 
 -- judging: 19, 1, then the container
 unfoldable pub judgeChecks : Reader → List ℕ → List Check
@@ -68,40 +72,40 @@ judgeChecks s c = entryChecks s (length c) ++ stateChecks s c
 
 -- reading with a room of n bytes: 19, 1, 2, then the container
 unfoldable pub readChecks : Reader → List ℕ → ℕ → List Check
-readChecks s c n = entryChecks s (length c) ++ (check (leb 352 n) RoomTooSmall 0 ∷ stateChecks s c)
+readChecks s c n = entryChecks s (length c) ++ (check (leb roomSize n) RoomTooSmall 0 ∷ stateChecks s c)
 
 -- the reader after a container: what was read of a message that goes on is carried
 unfoldable pub nextReader : Reader → List ℕ → Reader
 nextReader s c =
-    readerWith (s .format) (carryAfter (formatOf (s .format)) 0 (cells (formatOf (s .format)) c 12 0 (carried s)) (carried s))
+    readerWith (s .format) (carryAfter (formatOf (s .format)) 0 (cells (formatOf (s .format)) c granules 0 (carried s)) (carried s))
 
 -- the messages that end in a container, as records
 unfoldable pub records : Reader → List ℕ → List ℕ
-records s c = recordsOf (endings (formatOf (s .format)) 0 (cells (formatOf (s .format)) c 12 0 (carried s)) (carried s))
+records s c = recordsOf (endings (formatOf (s .format)) 0 (cells (formatOf (s .format)) c granules 0 (carried s)) (carried s))
 
 -- an accepted container answers the length written and the header grant; a refusal its cause and place
 abbrev pub answerOf : Verdict → ℕ → Grant → Answer
-answerOf Sound n grant = answer.Done n grant
-answerOf (Faulty c p) n grant = answer.Refused c p
+answerOf Accepted n grant = answer.Accepted n grant
+answerOf (Refused c p) n grant = answer.Refused c p
 
 -- reading with a room of n bytes: answer and next reader
 unfoldable pub reading : Reader → List ℕ → ℕ → Step
 reading s c n = record {
-  reader = whenSound (firstFault (readChecks s c n)) (nextReader s c) s;
+  reader = whenAccepted (firstFault (readChecks s c n)) (nextReader s c) s;
   answer = answerOf (firstFault (readChecks s c n)) (length (records s c)) (headerGrant (formatOf (s .format)) c);
 }
 
 -- the room after a reading: the records at its front, or as it was
 unfoldable pub readRoom : Reader → List ℕ → List ℕ → List ℕ
-readRoom s c room = whenSound (firstFault (readChecks s c (length room))) (put 0 (records s c) room) room
+readRoom s c room = whenAccepted (firstFault (readChecks s c (length room))) (put 0 (records s c) room) room
 
 -- judging without room: an accepted container answers the header grant and MsgStart
-abbrev pub judgementOf : Verdict → Grant → ℕ → Judgement
-judgementOf Sound grant starts = judgement.Accepted grant starts
-judgementOf (Faulty c p) grant starts = judgement.Refused c p
+abbrev pub judgeAnswerOf : Verdict → Grant → ℕ → JudgeAnswer
+judgeAnswerOf Accepted grant msgstart = judge.Accepted grant msgstart
+judgeAnswerOf (Refused c p) grant msgstart = judge.Refused c p
 
 unfoldable pub judging : Reader → List ℕ → Judged
 judging s c = record {
-  reader = whenSound (firstFault (judgeChecks s c)) (nextReader s c) s;
-  judgement = judgementOf (firstFault (judgeChecks s c)) (headerGrant (formatOf (s .format)) c) (msgStart (formatOf (s .format)) c);
+  reader = whenAccepted (firstFault (judgeChecks s c)) (nextReader s c) s;
+  answer = judgeAnswerOf (firstFault (judgeChecks s c)) (headerGrant (formatOf (s .format)) c) (msgStart (formatOf (s .format)) c);
 }

@@ -8,7 +8,7 @@ use lib.Dec.{eqb, ltb, leb}
 use Rattle.lists.specs.Pick.{pick}
 use Rattle.cause.specs.Checks.{Check, check, firstFault}
 use Rattle.cause.specs.declared.Verdict.{Verdict}
-use Rattle.cause.specs.declared.Verdict.the-variants.{Sound, Faulty}
+use Rattle.cause.specs.declared.Verdict.the-variants.{Accepted, Refused}
 use Rattle.cause.specs.declared.Cause.the-variants.{GapInGroup, SecondMisc, TooManyResponses, GrantBesideActivation}
 use Rattle.container.specs.Layout.{Format, formatOf, wide, granule, msgStart, bit}
 use Rattle.container.specs.Grants.{noCounts}
@@ -18,8 +18,8 @@ use Rattle.message.specs.Places.{responses, responsesBy, miscs, miscsBy}
 use Rattle.placement.specs.Cells.{Cell, owed, cells}
 use Rattle.placement.specs.Checking.{populated, starting, activations, cellChecks, granuleChecks, containerChecks}
 use Rattle.reader.specs.declared.track.Track.{Track}
-use Rattle.reader.specs.declared.cell.Finding.{Finding}
-use Rattle.reader.specs.declared.cell.Finding.the-variants.{Fault, Mark}
+use Rattle.reader.specs.declared.cell.CellAnswer.{CellAnswer}
+use Rattle.reader.specs.declared.cell.CellAnswer.the-variants as judged
 use Rattle.reader.specs.declared.scan.Scan.{Scan}
 
 -- no message is in progress
@@ -39,12 +39,12 @@ trackBy fm g st n t =
 
 -- after granule g of a container
 unfoldable pub trackAfter : Format → List ℕ → ℕ → ℕ → Track → Track
-trackAfter fm c starts g t = trackBy fm g (bit starts g) (msgSize (granule fm g c)) t
+trackAfter fm c msgstart g t = trackBy fm g (bit msgstart g) (msgSize (granule fm g c)) t
 
 -- the track when granule g is reached
 unfoldable pub trackAt : Format → List ℕ → ℕ → Track → ℕ → Track
-trackAt fm c starts t zero = t
-trackAt fm c starts t (suc g) = trackAfter fm c starts g (trackAt fm c starts t g)
+trackAt fm c msgstart t zero = t
+trackAt fm c msgstart t (suc g) = trackAfter fm c msgstart g (trackAt fm c msgstart t g)
 
 -- the bytes of the wide ones among granules s, .., s + k - 1
 unfoldable pub gathered : Format → List ℕ → ℕ → ℕ → List ℕ
@@ -60,9 +60,9 @@ inProgress fm c m t g = pick (eqb (t .owed) 0) [] (gatheredMessage fm c m t g)
 
 -- the message whose last granule is g, as the code finds it: none or one
 abbrev pub endedBy : Format → List ℕ → List ℕ → ℕ → Track → ℕ → List (List ℕ)
-endedBy fm c m starts t g =
+endedBy fm c m msgstart t g =
     pick (ltb 0 (t .owed) && wide fm g) (pick (leb (t .owed) 20) (gatheredMessage fm c m t (g + 1) ∷ []) [])
-    (pick (bit starts g) (pick (leb (msgSize (granule fm g c)) (fm .size g)) (take (msgSize (granule fm g c)) (granule fm g c) ∷ []) []) [])
+    (pick (bit msgstart g) (pick (leb (msgSize (granule fm g c)) (fm .size g)) (take (msgSize (granule fm g c)) (granule fm g c) ∷ []) []) [])
 
 -- a message that ends in granule g has its size in bytes
 abbrev pub Ending : Format → List ℕ → List ℕ → Track → ℕ → Type 0
@@ -83,12 +83,12 @@ abbrev pub cellFrom : Bool → Bool → List ℕ → Cell
 cellFrom on st b = record { goesOn = on; starts = st; bytes = b }
 
 -- what judging a cell finds: its first fault, or its mark and the size of the message that starts, 0 for none
-abbrev pub findingOf : Verdict → ℕ → ℕ → Finding
-findingOf Sound n k = Mark n k
-findingOf (Faulty c p) n k = Fault c
+abbrev pub cellAnswerOf : Verdict → ℕ → ℕ → CellAnswer
+cellAnswerOf Accepted n k = judged.Accepted n k
+cellAnswerOf (Refused c p) n k = judged.Refused c
 
-unfoldable pub finding : Format → ℕ → Cell → Finding
-finding fm g e = findingOf (firstFault (cellChecks fm g e)) (markOf e) (starting msgSize e)
+unfoldable pub cellAnswer : Format → ℕ → Cell → CellAnswer
+cellAnswer fm g e = cellAnswerOf (firstFault (cellChecks fm g e)) (markOf e) (starting msgSize e)
 
 -- the mark of a cell where a message starts, by type and op
 abbrev pub startMark : ℕ → ℕ → ℕ
@@ -124,13 +124,13 @@ marksOf (e ∷ es) = markOf e ∷ marksOf es
 -- what a scan of the granules gives: the first fault of a granule; and where there is none, the marks and the message in progress
 pub record Scanned (f : ℕ) (c m : List ℕ) (r : Scan) : Type 0 where
   pub verdict : r .verdict ≡ firstFault (granuleChecks (formatOf f) 0 (cells (formatOf f) c 12 0 m))
-  pub marks : r .verdict ≡ Sound → r .marks ≡ marksOf (cells (formatOf f) c 12 0 m)
-  pub track : r .verdict ≡ Sound → r .track ≡ trackAt (formatOf f) c (msgStart (formatOf f) c) (trackOf m) 12
+  pub marks : r .verdict ≡ Accepted → r .marks ≡ marksOf (cells (formatOf f) c 12 0 m)
+  pub track : r .verdict ≡ Accepted → r .track ≡ trackAt (formatOf f) c (msgStart (formatOf f) c) (trackOf m) 12
 
 -- what judging a whole container gives: its first fault; and where there is none, the message in progress
 pub record Looked (f : ℕ) (c m : List ℕ) (r : Scan) : Type 0 where
   pub verdict : r .verdict ≡ firstFault (containerChecks (formatOf f) c (cells (formatOf f) c 12 0 m))
-  pub track : r .verdict ≡ Sound → r .track ≡ trackAt (formatOf f) c (msgStart (formatOf f) c) (trackOf m) 12
+  pub track : r .verdict ≡ Accepted → r .track ≡ trackAt (formatOf f) c (msgStart (formatOf f) c) (trackOf m) 12
 
 -- what was read of a message in progress is at least a granule
 abbrev pub Begun : List ℕ → Type 0

@@ -3,13 +3,17 @@ ghost use mathlib.Core.Path.{_≡_};
 ghost use mathlib.Core.List.{[]};
 ghost use Rattle.placement.specs.Cells.{carryOk};
 ghost use Rattle.reader.specs.Reading.{validCarry, carryWith};
+use container::WIDE;
 use message::is_well_headed;
 use message::measure_message;
 use slices::is_zero;
 
+// The most bytes that are carried.
+pub const CARRY: usize = 100;
+
 // What was read of a message that goes on in the next container of its direction, and how many bytes that is, with zeros behind.
 pub struct Carry {
-    pub bytes: [u8; 100],
+    pub bytes: [u8; CARRY],
     pub len: usize,
 }
 
@@ -20,7 +24,7 @@ fn is_carry(carry: &[u8]) -> bool
     if carry.len() == 0 {
         return true;
     }
-    if carry.len() % 20 != 0 {
+    if carry.len() % WIDE != 0 {
         return false;
     }
     if measure_message(carry) <= carry.len() {
@@ -35,7 +39,7 @@ impl Carry {
         ensures { λ r. ⌜ r ≡ carryWith [] ⌝ }
     {
         Carry {
-            bytes: [0u8; 100],
+            bytes: [0u8; CARRY],
             len: 0,
         }
     }
@@ -46,7 +50,7 @@ impl Carry {
     {
         let len = self.len;
         let bytes = self.bytes;
-        if 100 < len {
+        if CARRY < len {
             return false;
         }
         if is_carry(&bytes[0..len]) {

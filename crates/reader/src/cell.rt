@@ -5,11 +5,13 @@ ghost use Prim.Native.Nat.{_<_};
 ghost use lib.ListN.{length};
 ghost use lib.Dec.{ltb, eqb};
 ghost use Rattle.container.specs.Layout.{formatOf, wide, bit, granule};
-ghost use Rattle.reader.specs.TrackingMirror.{cellFrom, finding, startMark};
+ghost use Rattle.reader.specs.TrackingMirror.{cellFrom, cellAnswer, startMark};
 use cause::Cause;
+use container::WIDE;
 use container::locate_granule;
 use container::measure_granule;
 use container::starts_at;
+use message::ACTIVATION;
 use message::count_miscs;
 use message::count_responses;
 use message::is_misc;
@@ -21,69 +23,70 @@ use slices::byte_at;
 use slices::is_zero;
 use slices::is_zero_from;
 
-// What judging a granule finds: a fault, or the mark that its group and the header are judged by and the size of the message that starts, 0 for none.
-pub enum Finding {
-    Fault(Cause),
-    Mark(u8, usize),
+// The answer of judging a granule: the mark that its group and the header are judged by and the size of the message that starts, 0 for none,
+// or the cause of the refusal.
+pub enum CellAnswer {
+    Accepted(u8, usize),
+    Refused(Cause),
 }
 
 // The mark of a granule where a message of this type and op starts.
-fn mark_start(kind: u8, op: u8) -> u8
-    ensures { λ r. ⌜ r ≡ startMark kind op ⌝ }
+fn mark_start(msgtype: u8, op: u8) -> u8
+    ensures { λ r. ⌜ r ≡ startMark msgtype op ⌝ }
 {
-    let counts = 1 + 4 * count_responses(kind) + 32 * count_miscs(kind);
-    if is_misc(kind, op, 1) {
+    let counts = 1 + 4 * count_responses(msgtype) + 32 * count_miscs(msgtype);
+    if is_misc(msgtype, op, ACTIVATION) {
         return (counts + 128) as u8;
     }
     counts as u8
 }
 
 // A granule where a message starts and none goes on.
-fn judge_start(format: u32, g: u8, part: &[u8]) -> Finding
+fn judge_start(format: u32, g: u8, part: &[u8]) -> CellAnswer
     requires { ⌜ (g < 12) × (length (now part) ≡ formatOf format .size g) ⌝ }
-    ensures { λ r. ⌜ r ≡ finding (formatOf format) g (cellFrom false true (now (part .entry))) ⌝ }
+    ensures { λ r. ⌜ r ≡ cellAnswer (formatOf format) g (cellFrom false true (now (part .entry))) ⌝ }
 {
-    let first = byte_at(part, 0);
+    let byte0 = byte_at(part, 0);
     let op = byte_at(part, 1);
-    let kind = first % 16;
-    let size = measure_code(kind, op);
+    let msgtype = byte0 % 16;
+    let size = measure_code(msgtype, op);
     if size == 0 {
-        return Finding::Fault(Cause::UnknownMessage);
+        return CellAnswer::Refused(Cause::UnknownMessage);
     }
-    if !may_start(format, g, kind, op) {
-        return Finding::Fault(Cause::PlaceNotAllowed);
+    if !may_start(format, g, msgtype, op) {
+        return CellAnswer::Refused(Cause::PlaceNotAllowed);
     }
-    if !keeps_bytes(first, op, byte_at(part, 2)) {
-        return Finding::Fault(Cause::HeadWrong);
+    if !keeps_bytes(byte0, op, byte_at(part, 2)) {
+        return CellAnswer::Refused(Cause::HeadWrong);
     }
-    if !keeps_grant(kind, op, part) {
-        return Finding::Fault(Cause::HeadWrong);
+    if !keeps_grant(msgtype, op, part) {
+        return CellAnswer::Refused(Cause::HeadWrong);
     }
     if !is_zero_from(part, size) {
-        return Finding::Fault(Cause::UnusedByteNotZero);
+        return CellAnswer::Refused(Cause::UnusedByteNotZero);
     }
-    Finding::Mark(mark_start(kind, op), size)
+    CellAnswer::Accepted(mark_start(msgtype, op), size)
 }
 
 // A granule of these bytes.
-fn judge_part(format: u32, g: u8, on: bool, start: bool, part: &[u8]) -> Finding
+fn judge_part(format: u32, g: u8, on: bool, start: bool, part: &[u8]) -> CellAnswer
     requires { ⌜ (g < 12) × (length (now part) ≡ formatOf format .size g) ⌝ }
     requires { ⌜ (on ≡ true → formatOf format .size g ≡ 20) ⌝ }
-    ensures { λ r. ⌜ r ≡ finding (formatOf format) g (cellFrom on start (now (part .entry))) ⌝ }
+    ensures { λ r. ⌜ r ≡ cellAnswer (formatOf format) g (cellFrom on start (now (part .entry))) ⌝ }
 {
     if on {
         if start {
-            return Finding::Fault(Cause::StartInsideMessage);
+            return CellAnswer::Refused(Cause::StartInsideMessage);
         }
-        return Finding::Mark(1, 0);
+        return CellAnswer::Accepted(1, 0);
     }
     if start {
         return judge_start(format, g, part);
     }
     if is_zero(part) {
-        return Finding::Mark(0, 0);
+        return CellAnswer::Accepted(0, 0);
     }
-    Finding::Fault(Cause::UnusedByteNotZero)
+    CellAnswer::Refused(Cause::UnusedByteNotZero)
 }
 
 // Whether a message of which so much is owed goes on in a granule of this size.
@@ -91,19 +94,25 @@ fn goes_on(size: usize, owed: usize) -> bool
     ensures { λ r. ⌜ r ≡ (ltb 0 owed && eqb size 20) ⌝ }
 {
     if 0 < owed {
-        return size == 20;
+        return size == WIDE;
     }
     false
 }
 
 // Granule g of a container, with so many bytes owed of the message in progress.
-pub(crate) fn judge_cell(format: u32, starts: u16, container: &[u8], owed: usize, g: u8) -> Finding
+pub(crate) fn judge_cell(
+    format: u32,
+    msgstart: u16,
+    container: &[u8],
+    owed: usize,
+    g: u8,
+) -> CellAnswer
     requires { ⌜ (length (now container) ≡ 256) × (g < 12) ⌝ }
-    ensures { λ r. ⌜ r ≡ finding (formatOf format) g (cellFrom (ltb 0 owed && wide (formatOf format) g) (bit starts g) (granule (formatOf format) g (now (container .entry)))) ⌝ }
+    ensures { λ r. ⌜ r ≡ cellAnswer (formatOf format) g (cellFrom (ltb 0 owed && wide (formatOf format) g) (bit msgstart g) (granule (formatOf format) g (now (container .entry)))) ⌝ }
 {
     let size = measure_granule(format, g);
     let a = locate_granule(g);
     let end = a + size;
     let on = goes_on(size, owed);
-    judge_part(format, g, on, starts_at(starts, g), &container[a..end])
+    judge_part(format, g, on, starts_at(msgstart, g), &container[a..end])
 }

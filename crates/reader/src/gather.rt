@@ -6,8 +6,11 @@ ghost use Rattle.lists.specs.Parts.{put};
 ghost use Rattle.container.specs.Layout.{formatOf};
 ghost use Rattle.reader.specs.Reading.{carryWith};
 ghost use Rattle.reader.specs.TrackingMirror.{gathered, gatheredMessage, inProgress, GoingOn};
+use crate::carry::CARRY;
 use crate::carry::Carry;
 use crate::track::Track;
+use container::GRANULES;
+use container::WIDE;
 use container::locate_granule;
 use container::measure_granule;
 use slices::copy_into;
@@ -29,11 +32,11 @@ pub(crate) fn gather_granules(
     let mut end = at;
     while k < count {
         let g = from + k;
-        if measure_granule(format, g) == 20 {
+        if measure_granule(format, g) == WIDE {
             let a = locate_granule(g);
-            let behind = a + 20;
+            let behind = a + WIDE;
             copy_into(out, end, &container[a..behind]);
-            end += 20;
+            end += WIDE;
         }
         k += 1;
     }
@@ -69,8 +72,8 @@ pub(crate) fn gather_carry(format: u32, container: &[u8], carry: &[u8], track: T
     if track.owed == 0 {
         return Carry::none();
     }
-    let mut bytes = [0u8; 100];
-    gather_message(format, container, carry, track, 12, &mut bytes, 0);
+    let mut bytes = [0u8; CARRY];
+    gather_message(format, container, carry, track, GRANULES, &mut bytes, 0);
     Carry {
         bytes: bytes,
         len: track.size - track.owed,

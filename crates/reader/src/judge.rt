@@ -8,6 +8,7 @@ ghost use Rattle.container.specs.Grants.{headerGrant, noCounts};
 ghost use Rattle.cause.specs.Checks.{firstFault};
 ghost use Rattle.placement.specs.Checking.{headerChecks};
 ghost use Rattle.reader.specs.TrackingMirror.{Looked, Begun, activationMarks, behindGranules};
+use crate::group::MARKS;
 use crate::group::has_activation;
 use crate::group::judge_groups;
 use crate::scan::Scan;
@@ -26,16 +27,16 @@ fn judge_header(format: u32, container: &[u8], grant: Grant) -> Verdict
     ensures { λ r. ⌜ r ≡ firstFault (headerChecks (formatOf format) (now (container .entry))) ⌝ }
 {
     if !keeps_reserved(format, container) {
-        return Verdict::Faulty(Cause::ReservedBitSet, 0);
+        return Verdict::Refused(Cause::ReservedBitSet, 0);
     }
     if !allows_plane(grant) {
-        return Verdict::Faulty(Cause::HeaderGrantForm, 0);
+        return Verdict::Refused(Cause::HeaderGrantForm, 0);
     }
-    Verdict::Sound
+    Verdict::Accepted
 }
 
 // Whether the header has no counts where an Activation starts, by the marks of the granules.
-fn is_quiet(grant: Grant, marks: [u8; 12]) -> bool
+fn is_quiet(grant: Grant, marks: [u8; MARKS]) -> bool
     ensures { λ r. ⌜ r ≡ (eqb (activationMarks 12 0 marks) 0 || noCounts grant) ⌝ }
 {
     if has_counts(grant) {
@@ -45,44 +46,44 @@ fn is_quiet(grant: Grant, marks: [u8; 12]) -> bool
 }
 
 // The groups and the header beside an Activation, by the marks of the granules: causes 10 to 13.
-fn judge_marks(grant: Grant, marks: [u8; 12]) -> Verdict
+fn judge_marks(grant: Grant, marks: [u8; MARKS]) -> Verdict
     ensures { λ r. ⌜ r ≡ firstFault (behindGranules grant marks) ⌝ }
 {
     let groups = judge_groups(marks);
-    if let Verdict::Faulty(_, _) = groups {
+    if let Verdict::Refused(_, _) = groups {
         return groups;
     }
     if !is_quiet(grant, marks) {
-        return Verdict::Faulty(Cause::GrantBesideActivation, 0);
+        return Verdict::Refused(Cause::GrantBesideActivation, 0);
     }
-    Verdict::Sound
+    Verdict::Accepted
 }
 
 // A container of 256 bytes, with its MsgStart and its header grant.
 pub(crate) fn judge_container(
     format: u32,
-    starts: u16,
+    msgstart: u16,
     grant: Grant,
     container: &[u8],
     carry: &[u8],
 ) -> Scan
     requires { ⌜ length (now container) ≡ 256 ⌝ }
-    requires { ⌜ starts ≡ msgStart (formatOf format) (now container) ⌝ }
+    requires { ⌜ msgstart ≡ msgStart (formatOf format) (now container) ⌝ }
     requires { ⌜ grant ≡ headerGrant (formatOf format) (now container) ⌝ }
     requires { ⌜ Begun (now carry) ⌝ }
     ensures { λ r. ⌜ Looked format (now (container .entry)) (now (carry .entry)) r ⌝ }
 {
     let header = judge_header(format, container, grant);
-    if let Verdict::Faulty(_, _) = header {
+    if let Verdict::Refused(_, _) = header {
         return Scan {
             verdict: header,
-            marks: [0u8; 12],
+            marks: [0u8; MARKS],
             track: Track::none(),
         };
     }
-    let scan = scan_granules(format, starts, container, carry);
+    let scan = scan_granules(format, msgstart, container, carry);
     let first = scan.verdict;
-    if let Verdict::Faulty(_, _) = first {
+    if let Verdict::Refused(_, _) = first {
         return scan;
     }
     let marks = scan.marks;

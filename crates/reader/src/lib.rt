@@ -11,8 +11,9 @@ mod track;
 
 pub use carry::Carry;
 pub use reader::Answer;
+pub use reader::Created;
+pub use reader::JudgeAnswer;
 pub use reader::Judged;
-pub use reader::Judgement;
-pub use reader::Opened;
+pub use reader::ROOM;
 pub use reader::Reader;
 pub use reader::Step;

@@ -6,7 +6,7 @@ ghost use Rattle.cause.specs.Checks.{firstFault, Pass};
 ghost use Rattle.container.specs.Layout.{formatOf, msgStart};
 ghost use Rattle.placement.specs.Cells.{cells};
 ghost use Rattle.placement.specs.Checking.{granuleChecks};
-ghost use Rattle.reader.specs.Reading.{readerOk, carried, entryChecks, opened, nextReader, reading, readRoom, judging};
+ghost use Rattle.reader.specs.Reading.{readerOk, carried, entryChecks, newReader, nextReader, reading, readRoom, judging};
 ghost use Rattle.reader.specs.TrackingMirror.{trackOf, trackAt};
 use crate::carry::Carry;
 use crate::gather::gather_carry;
@@ -15,9 +15,10 @@ use crate::records::write_endings;
 use crate::track::Track;
 use cause::Cause;
 use cause::Verdict;
+use container::CONTAINER;
 use container::Grant;
 use container::read_grant;
-use container::read_starts;
+use container::read_msgstart;
 
 // What is carried, and a format; in this order no unused bytes lie between the two.
 pub struct Reader {
@@ -25,9 +26,12 @@ pub struct Reader {
     pub format: u32,
 }
 
-// The answer of a reading: the length written and the header grant, or the refusal.
+// The least room of a reading: no container's records are longer.
+pub const ROOM: usize = 352;
+
+// The answer of a reading: the bytes written and the header grant, or the refusal.
 pub enum Answer {
-    Done { length: usize, grant: Grant },
+    Accepted { written: usize, grant: Grant },
     Refused { cause: Cause, place: u64 },
 }
 
@@ -38,41 +42,41 @@ pub struct Step {
 }
 
 // The answer of a judging: the header grant and MsgStart, or the refusal.
-pub enum Judgement {
-    Accepted { grant: Grant, starts: u16 },
+pub enum JudgeAnswer {
+    Accepted { grant: Grant, msgstart: u16 },
     Refused { cause: Cause, place: u64 },
 }
 
-// The next reader and the judgement.
+// The next reader and the answer.
 pub struct Judged {
     pub reader: Reader,
-    pub judgement: Judgement,
+    pub answer: JudgeAnswer,
 }
 
 // A new reader, and whether its format is one.
-pub struct Opened {
+pub struct Created {
     pub reader: Reader,
     pub verdict: Verdict,
 }
 
 impl Reader {
     // A reader of a format, with nothing carried.
-    pub fn fresh(format: u32) -> Opened
-        ensures { λ r. ⌜ r ≡ opened format ⌝ }
+    pub fn fresh(format: u32) -> Created
+        ensures { λ r. ⌜ r ≡ newReader format ⌝ }
     {
         let reader = Reader {
             carry: Carry::none(),
             format: format,
         };
         if format < 2 {
-            return Opened {
+            return Created {
                 reader: reader,
-                verdict: Verdict::Sound,
+                verdict: Verdict::Accepted,
             };
         }
-        Opened {
+        Created {
             reader: reader,
-            verdict: Verdict::Faulty(Cause::InvalidState, 0),
+            verdict: Verdict::Refused(Cause::InvalidState, 0),
         }
     }
 
@@ -88,16 +92,16 @@ impl Reader {
     }
 
     // The state and the length of a container: causes 19 and 1.
-    fn check_entry(self, length: usize) -> Verdict
-        ensures { λ r. ⌜ r ≡ firstFault (entryChecks self length) ⌝ }
+    fn check_entry(self, size: usize) -> Verdict
+        ensures { λ r. ⌜ r ≡ firstFault (entryChecks self size) ⌝ }
     {
         if !self.is_valid() {
-            return Verdict::Faulty(Cause::InvalidState, 0);
+            return Verdict::Refused(Cause::InvalidState, 0);
         }
-        if length != 256 {
-            return Verdict::Faulty(Cause::ContainerLength, 0);
+        if size != CONTAINER {
+            return Verdict::Refused(Cause::ContainerLength, 0);
         }
-        Verdict::Sound
+        Verdict::Accepted
     }
 
     // The reader behind an accepted container.
@@ -119,11 +123,11 @@ impl Reader {
 
     // A refused judging.
     fn refuse_judging(self, cause: Cause, place: u64) -> Judged
-        ensures { λ r. ⌜ r ≡ record { reader = self; judgement = Judgement.Refused cause place } ⌝ }
+        ensures { λ r. ⌜ r ≡ record { reader = self; answer = JudgeAnswer.Refused cause place } ⌝ }
     {
         Judged {
             reader: self,
-            judgement: Judgement::Refused {
+            answer: JudgeAnswer::Refused {
                 cause: cause,
                 place: place,
             },
@@ -138,19 +142,19 @@ impl Reader {
         let format = self.format;
         let bytes = self.carry.bytes;
         let len = self.carry.len;
-        let starts = read_starts(format, container);
+        let msgstart = read_msgstart(format, container);
         let grant = read_grant(format, container);
-        let scan = judge_container(format, starts, grant, container, &bytes[0..len]);
+        let scan = judge_container(format, msgstart, grant, container, &bytes[0..len]);
         let verdict = scan.verdict;
-        if let Verdict::Faulty(cause, place) = verdict {
+        if let Verdict::Refused(cause, place) = verdict {
             return self.refuse_judging(cause, place);
         }
         let track = scan.track;
         Judged {
             reader: self.carry_on(container, track),
-            judgement: Judgement::Accepted {
+            answer: JudgeAnswer::Accepted {
                 grant: grant,
-                starts: starts,
+                msgstart: msgstart,
             },
         }
     }
@@ -160,7 +164,7 @@ impl Reader {
         ensures { λ r. ⌜ r ≡ judging self (now (container .entry)) ⌝ }
     {
         let entry = self.check_entry(container.len());
-        if let Verdict::Faulty(cause, place) = entry {
+        if let Verdict::Refused(cause, place) = entry {
             return self.refuse_judging(cause, place);
         }
         self.judge_valid(container)
@@ -185,26 +189,26 @@ impl Reader {
         ensures room { λ _. ⌜ now (room .exit) ≡ readRoom self (now (container .entry)) (now (room .entry)) ⌝ }
     {
         let entry = self.check_entry(container.len());
-        if let Verdict::Faulty(cause, place) = entry {
+        if let Verdict::Refused(cause, place) = entry {
             return self.refuse(cause, place);
         }
-        if room.len() < 352 {
+        if room.len() < ROOM {
             return self.refuse(Cause::RoomTooSmall, 0);
         }
         let judged = self.judge_valid(container);
-        let judgement = judged.judgement;
-        match judgement {
-            Judgement::Refused { cause, place } => self.refuse(cause, place),
-            Judgement::Accepted { grant, starts } => {
+        let answer = judged.answer;
+        match answer {
+            JudgeAnswer::Refused { cause, place } => self.refuse(cause, place),
+            JudgeAnswer::Accepted { grant, msgstart } => {
                 let format = self.format;
                 let bytes = self.carry.bytes;
                 let len = self.carry.len;
-                let length = write_endings(format, starts, container, &bytes[0..len], room);
+                let written = write_endings(format, msgstart, container, &bytes[0..len], room);
                 let next = judged.reader;
                 Step {
                     reader: next,
-                    answer: Answer::Done {
-                        length: length,
+                    answer: Answer::Accepted {
+                        written: written,
                         grant: grant,
                     },
                 }

@@ -11,6 +11,8 @@ ghost use Rattle.placement.specs.Cells.{carryOk};
 ghost use Rattle.reader.specs.TrackingMirror.{gatheredMessage, endedBy, Ending};
 use crate::gather::gather_message;
 use crate::track::Track;
+use container::GRANULES;
+use container::WIDE;
 use container::locate_granule;
 use container::measure_granule;
 use container::starts_at;
@@ -54,7 +56,7 @@ fn write_long(
 // Writes the message whose last granule is g, if there is one, and answers the offset behind it.
 fn write_ending(
     format: u32,
-    starts: u16,
+    msgstart: u16,
     container: &[u8],
     carry: &[u8],
     track: Track,
@@ -65,20 +67,20 @@ fn write_ending(
     requires { ⌜ (length (now container) ≡ 256) × (track .kept ≤ length (now carry)) ⌝ }
     requires { ⌜ (track .from ≤ g) × (g < 12) ⌝ }
     requires { ⌜ Ending (formatOf format) (now container) (now carry) track g ⌝ }
-    requires { ⌜ at + length (recordsOf (endedBy (formatOf format) (now container) (now carry) starts track g)) ≤ length (now room) ⌝ }
-    ensures end { λ r. ⌜ r ≡ at + length (recordsOf (endedBy (formatOf format) (now (container .entry)) (now (carry .entry)) starts track g)) ⌝ }
-    ensures room { λ _. ⌜ now (room .exit) ≡ put at (recordsOf (endedBy (formatOf format) (now (container .entry)) (now (carry .entry)) starts track g)) (now (room .entry)) ⌝ }
+    requires { ⌜ at + length (recordsOf (endedBy (formatOf format) (now container) (now carry) msgstart track g)) ≤ length (now room) ⌝ }
+    ensures end { λ r. ⌜ r ≡ at + length (recordsOf (endedBy (formatOf format) (now (container .entry)) (now (carry .entry)) msgstart track g)) ⌝ }
+    ensures room { λ _. ⌜ now (room .exit) ≡ put at (recordsOf (endedBy (formatOf format) (now (container .entry)) (now (carry .entry)) msgstart track g)) (now (room .entry)) ⌝ }
 {
     let width = measure_granule(format, g);
     if 0 < track.owed {
-        if width == 20 {
-            if track.owed <= 20 {
+        if width == WIDE {
+            if track.owed <= WIDE {
                 return write_long(format, container, carry, track, g, room, at);
             }
             return at;
         }
     }
-    if !starts_at(starts, g) {
+    if !starts_at(msgstart, g) {
         return at;
     }
     let a = locate_granule(g);
@@ -92,13 +94,13 @@ fn write_ending(
 // Writes the messages that end in a container as records at the front of the room, and answers their length.
 pub(crate) fn write_endings(
     format: u32,
-    starts: u16,
+    msgstart: u16,
     container: &[u8],
     carry: &[u8],
     room: &mut [u8],
 ) -> usize
     requires { ⌜ (length (now container) ≡ 256) × (352 ≤ length (now room)) ⌝ }
-    requires { ⌜ starts ≡ msgStart (formatOf format) (now container) ⌝ }
+    requires { ⌜ msgstart ≡ msgStart (formatOf format) (now container) ⌝ }
     requires { ⌜ (carryOk (now carry) ≡ true) × (length (now carry) ≤ 100) ⌝ }
     ensures end { λ r. ⌜ r ≡ length (recordsOf (endings (formatOf format) 0 (cells (formatOf format) (now (container .entry)) 12 0 (now (carry .entry))) (now (carry .entry)))) ⌝ }
     ensures room { λ _. ⌜ now (room .exit) ≡ put 0 (recordsOf (endings (formatOf format) 0 (cells (formatOf format) (now (container .entry)) 12 0 (now (carry .entry))) (now (carry .entry)))) (now (room .entry)) ⌝ }
@@ -106,9 +108,9 @@ pub(crate) fn write_endings(
     let mut track = Track::carried(carry);
     let mut at = 0;
     let mut g: u8 = 0;
-    while g < 12 {
-        at = write_ending(format, starts, container, carry, track, g, room, at);
-        track = track.pass(format, starts, container, g);
+    while g < GRANULES {
+        at = write_ending(format, msgstart, container, carry, track, g, room, at);
+        track = track.pass(format, msgstart, container, g);
         g += 1;
     }
     at

@@ -6,6 +6,7 @@ ghost use Rattle.lists.specs.Pick.{pick};
 ghost use lib.ListN.{length};
 ghost use Rattle.container.specs.Layout.{formatOf};
 ghost use Rattle.reader.specs.TrackingMirror.{noTrack, trackOf, trackBy, trackAfter};
+use container::WIDE;
 use container::locate_granule;
 use container::measure_granule;
 use container::starts_at;
@@ -58,11 +59,11 @@ impl Track {
     fn advance(self) -> Track
         ensures { λ r. ⌜ r ≡ pick (leb (self .owed) 20) noTrack (record { owed = self .owed - 20; size = self .size; from = self .from; kept = self .kept }) ⌝ }
     {
-        if self.owed <= 20 {
+        if self.owed <= WIDE {
             return Track::none();
         }
         Track {
-            owed: self.owed - 20,
+            owed: self.owed - WIDE,
             size: self.size,
             from: self.from,
             kept: self.kept,
@@ -73,11 +74,11 @@ impl Track {
     fn start(g: u8, size: usize) -> Track
         ensures { λ r. ⌜ r ≡ pick (leb size 20) noTrack (record { owed = size - 20; size = size; from = g; kept = 0 }) ⌝ }
     {
-        if size <= 20 {
+        if size <= WIDE {
             return Track::none();
         }
         Track {
-            owed: size - 20,
+            owed: size - WIDE,
             size: size,
             from: g,
             kept: 0,
@@ -88,7 +89,7 @@ impl Track {
     pub fn follow(self, format: u32, g: u8, start: bool, size: usize) -> Track
         ensures { λ r. ⌜ r ≡ trackBy (formatOf format) g start size self ⌝ }
     {
-        if measure_granule(format, g) != 20 {
+        if measure_granule(format, g) != WIDE {
             return self;
         }
         if 0 < self.owed {
@@ -101,11 +102,11 @@ impl Track {
     }
 
     // The message in progress after granule g.
-    pub(crate) fn pass(self, format: u32, starts: u16, container: &[u8], g: u8) -> Track
+    pub(crate) fn pass(self, format: u32, msgstart: u16, container: &[u8], g: u8) -> Track
         requires { ⌜ (length (now container) ≡ 256) × (g < 12) ⌝ }
-        ensures { λ r. ⌜ r ≡ trackAfter (formatOf format) (now (container .entry)) starts g self ⌝ }
+        ensures { λ r. ⌜ r ≡ trackAfter (formatOf format) (now (container .entry)) msgstart g self ⌝ }
     {
-        if starts_at(starts, g) {
+        if starts_at(msgstart, g) {
             let a = locate_granule(g);
             let end = a + measure_granule(format, g);
             return self.follow(format, g, true, measure_message(&container[a..end]));

@@ -13,7 +13,7 @@ use Rattle.lists.specs.Parts.{part, IsBytes}
 use Rattle.lists.proofs.Tests.{cases, and-left, and-right}
 use Rattle.lists.proofs.PartLaws.{length-part, length-zero, rest-is, bytes-drop}
 use Rattle.cause.specs.declared.Verdict.{Verdict}
-use Rattle.cause.specs.declared.Verdict.the-variants.{Sound, Faulty}
+use Rattle.cause.specs.declared.Verdict.the-variants.{Accepted, Refused}
 use Rattle.cause.specs.declared.Cause.{Cause}
 use Rattle.cause.specs.declared.Cause.the-variants.{BrokenRecord}
 use Rattle.message.specs.Heads.{isMessage, msgSize}
@@ -171,10 +171,10 @@ pub record Listed (l : List ℕ) : Type 0 where
 
 -- how a first record is found, by its kind
 module _ (l : List ℕ) (at : ℕ) (next : ℕ → Verdict) where
-  pub onward-empty : firstOf (drop at l) ≡ Empty → onward (firstOf (drop at l)) at next ≡ Sound
+  pub onward-empty : firstOf (drop at l) ≡ Empty → onward (firstOf (drop at l)) at next ≡ Accepted
   onward-empty e = rw e
 
-  pub onward-bad : firstOf (drop at l) ≡ Bad → onward (firstOf (drop at l)) at next ≡ Faulty BrokenRecord at
+  pub onward-bad : firstOf (drop at l) ≡ Bad → onward (firstOf (drop at l)) at next ≡ Refused BrokenRecord at
   onward-bad e = rw e
 
   pub onward-whole : (start end : ℕ) → firstOf (drop at l) ≡ Whole start end → onward (firstOf (drop at l)) at next ≡ next (at + end)
@@ -206,15 +206,15 @@ fault-next l at start end e =
     onward-whole l at (λ next. faultFrom (length l - at) l next) start end e
     ∙ fuel-enough (length l - at) (suc (length l - (at + end))) l (at + end) (omega arith) (omega arith)
 
-pub fault-bad : (l : List ℕ) (at : ℕ) → firstOf (drop at l) ≡ Bad → faultFrom (suc (length l - at)) l at ≡ Faulty BrokenRecord at
+pub fault-bad : (l : List ℕ) (at : ℕ) → firstOf (drop at l) ≡ Bad → faultFrom (suc (length l - at)) l at ≡ Refused BrokenRecord at
 unfolding faultFrom
 fault-bad l at e = onward-bad l at (λ next. faultFrom (length l - at) l next) e
 
-pub fault-empty : (l : List ℕ) (at : ℕ) → firstOf (drop at l) ≡ Empty → faultFrom (suc (length l - at)) l at ≡ Sound
+pub fault-empty : (l : List ℕ) (at : ℕ) → firstOf (drop at l) ≡ Empty → faultFrom (suc (length l - at)) l at ≡ Accepted
 unfolding faultFrom
 fault-empty l at e = onward-empty l at (λ next. faultFrom (length l - at) l next) e
 
-pub fault-end : (l : List ℕ) (at : ℕ) → length l ≤ at → faultFrom (suc (length l - at)) l at ≡ Sound
+pub fault-end : (l : List ℕ) (at : ℕ) → length l ≤ at → faultFrom (suc (length l - at)) l at ≡ Accepted
 fault-end l at h = fault-empty l at (rw (drop-of-length-le l h))
 
 pub fault-start : (l : List ℕ) → listFault l ≡ faultFrom (suc (length l - 0)) l 0
@@ -255,13 +255,13 @@ listed-more : (m l : List ℕ) → isMessage m ≡ true → Listed l → Listed 
 listed-more m l e h = record { messages = m ∷ h .messages; joined = ap (λ (r : List ℕ). recordOf m ++ r) (h .joined); all = (e, h .all) }
 
 -- a sound verdict from an offset on: the rest is a list of records
-from-sound : (k : ℕ) (l : List ℕ) (at : ℕ) → IsBytes l → length l - at < k → faultFrom k l at ≡ Sound → Listed (drop at l)
+from-accepted : (k : ℕ) (l : List ℕ) (at : ℕ) → IsBytes l → length l - at < k → faultFrom k l at ≡ Accepted → Listed (drop at l)
 unfolding faultFrom
-from-sound zero l at h p e = absurd (omega arith)
-from-sound (suc k) l at h p e = by (firstOf (drop at l)) refl e (λ next. from-sound k l next h)
+from-accepted zero l at h p e = absurd (omega arith)
+from-accepted (suc k) l at h p e = by (firstOf (drop at l)) refl e (λ next. from-accepted k l next h)
   where
-    by : (f : First) → firstOf (drop at l) ≡ f → onward f at (λ next. faultFrom k l next) ≡ Sound
-        → ((next : ℕ) → length l - next < k → faultFrom k l next ≡ Sound → Listed (drop next l)) → Listed (drop at l)
+    by : (f : First) → firstOf (drop at l) ≡ f → onward f at (λ next. faultFrom k l next) ≡ Accepted
+        → ((next : ℕ) → length l - next < k → faultFrom k l next ≡ Accepted → Listed (drop next l)) → Listed (drop at l)
     by Empty q v ih = rw (first-empty (drop at l) q) (record { messages = []; joined = refl; all = tt })
     by Bad q v ih = let z : _≡_ {A = ℕ} 0 1 = cc in absurd (omega arith)
     by (Whole start end) q v ih =
@@ -272,11 +272,11 @@ from-sound (suc k) l at h p e = by (firstOf (drop at l)) refl e (λ next. from-s
         (listed-more (messageOf (drop at l) start end) (drop (at + end) l) (s .message) (ih (at + end) (omega arith) v))
 
 -- a list of records from an offset on: a sound verdict
-to-sound : (ms : List (List ℕ)) (k : ℕ) (l : List ℕ) (at : ℕ) → AllMessages ms → drop at l ≡ recordsOf ms → length l - at < k → faultFrom k l at ≡ Sound
+to-accepted : (ms : List (List ℕ)) (k : ℕ) (l : List ℕ) (at : ℕ) → AllMessages ms → drop at l ≡ recordsOf ms → length l - at < k → faultFrom k l at ≡ Accepted
 unfolding faultFrom
-to-sound ms zero l at a e p = absurd (omega arith)
-to-sound [] (suc k) l at a e p = onward-empty l at (λ next. faultFrom k l next) (rw e)
-to-sound (m ∷ ms) (suc k) l at a e p =
+to-accepted ms zero l at a e p = absurd (omega arith)
+to-accepted [] (suc k) l at a e p = onward-empty l at (λ next. faultFrom k l next) (rw e)
+to-accepted (m ∷ ms) (suc k) l at a e p =
     let u : ℕ = length (number (length m)) in
     let first : firstOf (drop at l) ≡ Whole u (u + length m) = ap firstOf e ∙ first-written m (recordsOf ms) (a .0) in
     let w = first-within (drop at l) u (u + length m) first in
@@ -284,14 +284,14 @@ to-sound (m ∷ ms) (suc k) l at a e p =
     let rest : drop (at + (u + length m)) l ≡ recordsOf ms =
     sym (drop-drop (u + length m) at l) ∙ ap (drop (u + length m)) e
     ∙ drop-at (recordOf m) (recordsOf ms) (u + length m) (length-append (number (length m)) m) in
-    onward-whole l at (λ next. faultFrom k l next) u (u + length m) first ∙ to-sound ms k l (at + (u + length m)) (a .1) rest (omega arith)
+    onward-whole l at (λ next. faultFrom k l next) u (u + length m) first ∙ to-accepted ms k l (at + (u + length m)) (a .1) rest (omega arith)
 
 -- a list is checked sound exactly where it is made of records of whole messages
-pub list-exactly : (l : List ℕ) → IsBytes l → (listFault l ≡ Sound) ↔ Listed l
+pub list-exactly : (l : List ℕ) → IsBytes l → (listFault l ≡ Accepted) ↔ Listed l
 unfolding listFault
 list-exactly l h = (
-  λ (e : faultFrom (suc (length l)) l 0 ≡ Sound). from-sound (suc (length l)) l 0 h (omega arith) e,
-  λ (r : Listed l). to-sound (r .messages) (suc (length l)) l 0 (r .all) (r .joined) (omega arith),
+  λ (e : faultFrom (suc (length l)) l 0 ≡ Accepted). from-accepted (suc (length l)) l 0 h (omega arith) e,
+  λ (r : Listed l). to-accepted (r .messages) (suc (length l)) l 0 (r .all) (r .joined) (omega arith),
 )
 
 -- what is broken at a place, from an offset on
@@ -301,13 +301,13 @@ pub record BrokenAt (l : List ℕ) (at : ℕ) (c : Cause) (p : ℕ) : Type 0 whe
   pub before : Listed (take (p - at) (drop at l))
   pub broken : firstOf (drop p l) ≡ Bad
 
-from-faulty : (k : ℕ) (l : List ℕ) (at : ℕ) (c : Cause) (p : ℕ) → IsBytes l → faultFrom k l at ≡ Faulty c p → BrokenAt l at c p
+from-refused : (k : ℕ) (l : List ℕ) (at : ℕ) (c : Cause) (p : ℕ) → IsBytes l → faultFrom k l at ≡ Refused c p → BrokenAt l at c p
 unfolding faultFrom
-from-faulty zero l at c p h e = let z : _≡_ {A = ℕ} 0 1 = cc in absurd (omega arith)
-from-faulty (suc k) l at c p h e = by (firstOf (drop at l)) refl e (λ next. from-faulty k l next c p h)
+from-refused zero l at c p h e = let z : _≡_ {A = ℕ} 0 1 = cc in absurd (omega arith)
+from-refused (suc k) l at c p h e = by (firstOf (drop at l)) refl e (λ next. from-refused k l next c p h)
   where
-    by : (f : First) → firstOf (drop at l) ≡ f → onward f at (λ next. faultFrom k l next) ≡ Faulty c p
-        → ((next : ℕ) → faultFrom k l next ≡ Faulty c p → BrokenAt l next c p) → BrokenAt l at c p
+    by : (f : First) → firstOf (drop at l) ≡ f → onward f at (λ next. faultFrom k l next) ≡ Refused c p
+        → ((next : ℕ) → faultFrom k l next ≡ Refused c p → BrokenAt l next c p) → BrokenAt l at c p
     by Empty q v ih = let z : _≡_ {A = ℕ} 0 1 = cc in absurd (omega arith)
     by Bad q v ih =
         let ec : c ≡ BrokenRecord = cc in
@@ -340,9 +340,9 @@ from-faulty (suc k) l at c p h e = by (firstOf (drop at l)) refl e (λ next. fro
             length-append (number (length (messageOf (drop at l) start end))) (messageOf (drop at l) start end) ∙ omega arith
 
 -- a list is broken at the first record that is no whole message: the bytes before it are records
-pub list-broken : (l : List ℕ) (c : Cause) (p : ℕ) → IsBytes l → listFault l ≡ Faulty c p → (c ≡ BrokenRecord) × Listed (take p l) × (firstOf (drop p l) ≡ Bad)
+pub list-broken : (l : List ℕ) (c : Cause) (p : ℕ) → IsBytes l → listFault l ≡ Refused c p → (c ≡ BrokenRecord) × Listed (take p l) × (firstOf (drop p l) ≡ Bad)
 unfolding listFault
 list-broken l c p h e =
-    let r = from-faulty (suc (length l)) l 0 c p h e in
+    let r = from-refused (suc (length l)) l 0 c p h e in
     let d : p - 0 ≡ p = omega arith in
     (r .cause, rw d at (r .before), r .broken)

@@ -8,7 +8,7 @@ use lib.Dec.{leb}
 use Rattle.lists.specs.Pick.{pick}
 use Rattle.lists.specs.Parts.{part}
 use Rattle.cause.specs.declared.Verdict.{Verdict}
-use Rattle.cause.specs.declared.Verdict.the-variants.{Sound, Faulty}
+use Rattle.cause.specs.declared.Verdict.the-variants.{Accepted, Refused}
 use Rattle.cause.specs.declared.Cause.the-variants.{BrokenRecord}
 use Rattle.message.specs.Heads.{isMessage}
 use Rattle.record.specs.Number.{number, readNumber}
@@ -16,6 +16,10 @@ use Rattle.record.specs.declared.number.Number.{Number}
 use Rattle.record.specs.declared.number.Number.the-variants.{Broken, Value}
 use Rattle.record.specs.declared.list.First.{First}
 use Rattle.record.specs.declared.list.First.the-variants.{Empty, Bad, Whole}
+
+-- the most bytes of a list
+abbrev pub longestList : ℕ
+longestList = 4096
 
 -- a record: the message size as a number and then the message
 abbrev pub recordOf : List ℕ → List ℕ
@@ -47,13 +51,13 @@ messageOf l start end = part start (end - start) l
 
 -- what a first record at an offset gives: the end, a fault there, or what follows behind it
 abbrev pub onward : First → ℕ → (ℕ → Verdict) → Verdict
-onward Empty at next = Sound
-onward Bad at next = Faulty BrokenRecord at
+onward Empty at next = Accepted
+onward Bad at next = Refused BrokenRecord at
 onward (Whole start end) at next = next (at + end)
 
 -- the first broken record from an offset on, where at most k records are looked at
 unfoldable pub faultFrom : ℕ → List ℕ → ℕ → Verdict
-faultFrom zero l at = Sound
+faultFrom zero l at = Accepted
 faultFrom (suc k) l at = onward (firstOf (drop at l)) at (λ next. faultFrom k l next)
 
 -- the check of a whole list: the byte offset of the first broken record, or none

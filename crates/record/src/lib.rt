@@ -3,6 +3,7 @@ mod list;
 mod number;
 
 pub use list::First;
+pub use list::LONGEST_LIST;
 pub use list::check_list;
 pub use list::read_record;
 pub use number::Encoded;

@@ -7,6 +7,9 @@ use cause::Cause;
 use cause::Verdict;
 use message::is_message;
 
+// The most bytes of a list.
+pub const LONGEST_LIST: usize = 4096;
+
 // The first record of a list: none, a broken one, or the bytes of its message from start to end.
 pub enum First {
     Empty,
@@ -50,7 +53,7 @@ pub fn read_record(list: &[u8]) -> First
     cut_record(list, read_number(list))
 }
 
-// The check of a whole list: sound, or the offset of the first broken record.
+// The check of a whole list: accepted, or the offset of the first broken record.
 pub fn check_list(list: &[u8]) -> Verdict
     ensures { λ r. ⌜ r ≡ listFault (now (list .entry)) ⌝ }
 {
@@ -58,12 +61,12 @@ pub fn check_list(list: &[u8]) -> Verdict
     while at < list.len() {
         let first = read_record(&list[at..]);
         match first {
-            First::Empty => return Verdict::Sound,
-            First::Bad => return Verdict::Faulty(Cause::BrokenRecord, at as u64),
+            First::Empty => return Verdict::Accepted,
+            First::Bad => return Verdict::Refused(Cause::BrokenRecord, at as u64),
             First::Whole { start: _, end } => {
                 at += end;
             }
         }
     }
-    Verdict::Sound
+    Verdict::Accepted
 }

@@ -16,8 +16,8 @@ use Rattle.lists.proofs.Tests.{cases, and-both, or-true}
 use Rattle.lists.proofs.Order.{lt-or-le}
 use Rattle.lists.proofs.PartLaws.{bytes-drop}
 use Rattle.lists.proofs.ZeroLaws.{zeros-replicate}
-use Rattle.cause.specs.declared.Verdict.the-variants.{Sound}
-use Rattle.cause.proofs.CheckLaws.{pass-sound}
+use Rattle.cause.specs.declared.Verdict.the-variants.{Accepted}
+use Rattle.cause.proofs.CheckLaws.{pass-accepted}
 use Rattle.container.specs.Layout.{Format, formatOf, wide}
 use Rattle.container.specs.Grants.{planeAllowed, noCounts}
 use Rattle.container.specs.declared.grant.Grant.{Grant}
@@ -187,19 +187,19 @@ module _ (f : ℕ) (n : Grant) (m t l : List ℕ) (ms : List (List ℕ)) (small 
       rw (lt-ltb f 2 small, le-leb (length t) 100 (link-most m t link .1), eq-eqb (length t % 20) 0 (link-granules m t link), d)
       (zeros-replicate (100 - length t))
 
-  pub call-sound : (k : ℕ) → k ≡ 256 → fillFault (writerWith f t) l n k ≡ Sound
+  pub call-accepted : (k : ℕ) → k ≡ 256 → fillFault (writerWith f t) l n k ≡ Accepted
   unfolding fillFault callChecks
-  call-sound k e =
-      rw (pass-sound (callChecks (writerWith f t) (length l) n k)
+  call-accepted k e =
+      rw (pass-accepted (callChecks (writerWith f t) (length l) n k)
       (writer-ok, (eq-eqb k 256 e, (le-leb (length l) 4096 few, (and-both (ltb (n .rp) 8) (planeAllowed n) (lt-ltb (n .rp) 8 low) allowed, tt)))))
       (list-exactly l hb .1 (record { messages = ms; joined = left .records; all = left .all }))
 
   pub call-fills : Fills (writerWith f t) l n (filled (formatOf f) n t l) (usedOf (formatOf f) n t l) (writerWith f (owesAfter (formatOf f) n t l))
   unfolding filling fillBytes
   call-fills = record {
-    answer = rw (call-sound 256 refl, tail-of f t);
-    next = rw (call-sound 256 refl, tail-of f t);
-    bytes = λ old e. rw (call-sound (length old) e, tail-of f t);
+    answer = rw (call-accepted 256 refl, tail-of f t);
+    next = rw (call-accepted 256 refl, tail-of f t);
+    bytes = λ old e. rw (call-accepted (length old) e, tail-of f t);
     of-bytes = hb;
   }
 

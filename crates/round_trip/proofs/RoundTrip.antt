@@ -12,8 +12,8 @@ use borrow.Author.Tests.{lt-ltb, le-leb, eq-eqb, ltb-true}
 use Rattle.lists.specs.Parts.{IsBytes}
 use Rattle.lists.proofs.Tests.{cases, and-left, and-right, or-true}
 use Rattle.cause.specs.Checks.{Pass, firstFault}
-use Rattle.cause.specs.declared.Verdict.the-variants.{Sound}
-use Rattle.cause.proofs.CheckLaws.{pass-sound, sound-pass, pass-append, both-sound}
+use Rattle.cause.specs.declared.Verdict.the-variants.{Accepted}
+use Rattle.cause.proofs.CheckLaws.{pass-accepted, accepted-pass, pass-append, both-accepted}
 use Rattle.container.specs.Layout.{Format, formatOf, wide}
 use Rattle.container.specs.Grants.{headerGrant, planeAllowed, noCounts}
 use Rattle.container.specs.declared.grant.Grant.{Grant}
@@ -43,7 +43,7 @@ use Rattle.writer.proofs.Run.{Written, Ran, plan-followed, cells-shown}
 use Rattle.writer.proofs.PlanLaws.{plan-length}
 use Rattle.writer.proofs.Groups.{packed-none, groups-pass}
 use Rattle.writer.proofs.Container as made
-use Rattle.writer.proofs.AnswerLaws.{filling-sound}
+use Rattle.writer.proofs.AnswerLaws.{fill-answer-accepted}
 
 -- ---- the rules of the plan
 
@@ -169,10 +169,10 @@ module _ (f : ℕ) (n : Grant) (low : n .rp < 8) (allowed : planeAllowed n ≡ t
     abbrev before : Reader
     before = readerWith f m
 
-    box-sound : (room : ℕ) → 352 ≤ room → firstFault (readChecks before box room) ≡ Sound
+    box-accepted : (room : ℕ) → 352 ≤ room → firstFault (readChecks before box room) ≡ Accepted
     unfolding readChecks stateChecks
-    box-sound room large =
-        pass-sound (readChecks before box room) (
+    box-accepted room large =
+        pass-accepted (readChecks before box room) (
           with-valid f m (lt-ltb f 2 small) (link-carry m t link) (link-most m t link .0),
           (eq-eqb (length box) 256 box-length, (le-leb 352 room large, rw (carried-of f m, box-cells) box-passes)),
         )
@@ -186,9 +186,9 @@ module _ (f : ℕ) (n : Grant) (low : n .rp < 8) (allowed : planeAllowed n ≡ t
     box-next = rw (carried-of f m, box-cells)
 
     box-step : (room : ℕ) → 352 ≤ room
-        → _≡_ {A = Step} (record { reader = readerWith f (carryAfter fm 0 laid m); answer = read.Done (length (recordsOf (endings fm 0 laid m))) n }) (reading before box room)
+        → _≡_ {A = Step} (record { reader = readerWith f (carryAfter fm 0 laid m); answer = read.Accepted (length (recordsOf (endings fm 0 laid m))) n }) (reading before box room)
     box-step room large =
-        read-done before box room (box-sound room large) (readerWith f (carryAfter fm 0 laid m)) (sym box-next)
+        read-done before box room (box-accepted room large) (readerWith f (carryAfter fm 0 laid m)) (sym box-next)
         (length (recordsOf (endings fm 0 laid m))) (sym (ap length box-records)) n (sym box-grant)
 
     pub box-reads : Reads before box n (recordsOf (endings fm 0 laid m)) (readerWith f (carryAfter fm 0 laid m))
@@ -218,19 +218,19 @@ pub record Filled (f : ℕ) (t l : List ℕ) (n : Grant) (c : List ℕ) (u : ℕ
   pub next : writerWith f (owesAfter (formatOf f) n t l) ≡ w′
   pub low : n .rp < 8
   pub allowed : planeAllowed n ≡ true
-  pub sound : listFault l ≡ Sound
+  pub sound : listFault l ≡ Accepted
 
 -- what a fault that is none says of the grant and of the list
 record Checked (l : List ℕ) (n : Grant) : Type 0 where
   low : n .rp < 8
   allowed : planeAllowed n ≡ true
-  sound : listFault l ≡ Sound
+  sound : listFault l ≡ Accepted
 
-checked : (w : Writer) (l : List ℕ) (n : Grant) → fillFault w l n 256 ≡ Sound → Checked l n
+checked : (w : Writer) (l : List ℕ) (n : Grant) → fillFault w l n 256 ≡ Accepted → Checked l n
 unfolding fillFault callChecks
 checked w l n e =
-    let b = both-sound (firstFault (callChecks w (length l) n 256)) (listFault l) e in
-    let g : (ltb (n .rp) 8 && planeAllowed n) ≡ true = sound-pass (callChecks w (length l) n 256) (b .0) .1 .1 .1 .0 in
+    let b = both-accepted (firstFault (callChecks w (length l) n 256)) (listFault l) e in
+    let g : (ltb (n .rp) 8 && planeAllowed n) ≡ true = accepted-pass (callChecks w (length l) n 256) (b .0) .1 .1 .1 .0 in
     record {
       low = ltb-true (n .rp) 8 (and-left (ltb (n .rp) 8) (planeAllowed n) g);
       allowed = and-right (ltb (n .rp) 8) (planeAllowed n) g;
@@ -241,7 +241,7 @@ pub is-filled : (f : ℕ) (t l : List ℕ) (n : Grant) (c : List ℕ) (u : ℕ) 
 unfolding filling fillBytes
 is-filled f t l n c u w′ h =
     let w = writerWith f t in
-    let a = filling-sound (fillFault w l n 256) (usedOf (formatOf f) n (tailOf w) l) u (h .answer) in
+    let a = fill-answer-accepted (fillFault w l n 256) (usedOf (formatOf f) n (tailOf w) l) u (h .answer) in
     let k = checked w l n (a .0) in
     record {
       container = rw (a .0, tail-of f t) at (h .bytes (replicate 256 0) refl);
@@ -275,7 +275,7 @@ pub record Read (f : ℕ) (s : Reader) (w : Writer) (l c : List ℕ) (n : Grant)
   pub same : OtherOrder (formatOf f) (out ++ underWay next w′) (underWay s w ++ taken)
 
 -- a list that is accepted is one of records
-pub list-left : (l : List ℕ) → IsBytes l → listFault l ≡ Sound → (ms : List (List ℕ)) × Left l 0 ms
+pub list-left : (l : List ℕ) → IsBytes l → listFault l ≡ Accepted → (ms : List (List ℕ)) × Left l 0 ms
 list-left l h e = let k = list-exactly l h .0 e in (k .messages, record { within = omega arith; records = k .joined; all = k .all })
 
 module _ (f : ℕ) (small : f < 2) (m t l c : List ℕ) (n : Grant) (u : ℕ) (w′ : Writer) (link : Link m t) (h : Filled f t l n c u w′)

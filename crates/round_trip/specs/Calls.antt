@@ -20,7 +20,7 @@ use Rattle.writer.specs.SameMessages.{SameMessages}
 
 -- an accepted fill: the writer w fills c from the list l under the grant n, uses u bytes of l, and becomes w′
 pub record Fills (w : Writer) (l : List ℕ) (n : Grant) (c : List ℕ) (u : ℕ) (w′ : Writer) : Type 0 where
-  pub answer : filling w l n 256 .answer ≡ fill.Filled u
+  pub answer : filling w l n 256 .answer ≡ fill.Accepted u
   pub next : filling w l n 256 .writer ≡ w′
   pub bytes : (old : List ℕ) → length old ≡ 256 → fillBytes w l n old ≡ c
   pub of-bytes : IsBytes l
@@ -67,7 +67,7 @@ pub record UsedUp (f : ℕ) (l : List ℕ) (n : ℕ → Grant) (p : ℕ) : Type 
 
 -- an accepted reading: the reader s reads c, answers the grant n, hands out the records out, and becomes s′
 pub record Reads (s : Reader) (c : List ℕ) (n : Grant) (out : List ℕ) (s′ : Reader) : Type 0 where
-  pub answer : (room : ℕ) → 352 ≤ room → reading s c room .answer ≡ read.Done (length out) n
+  pub answer : (room : ℕ) → 352 ≤ room → reading s c room .answer ≡ read.Accepted (length out) n
   pub next : (room : ℕ) → 352 ≤ room → reading s c room .reader ≡ s′
   pub handed : records s c ≡ out
 

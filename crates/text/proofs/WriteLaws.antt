@@ -17,9 +17,9 @@ use Rattle.lists.proofs.PutLaws.{put-more}
 use Rattle.cause.specs.Causes.{causeNumber}
 use Rattle.cause.specs.declared.Cause.{Cause}
 use Rattle.cause.specs.declared.Verdict.{Verdict}
-use Rattle.cause.specs.declared.Verdict.the-variants.{Sound, Faulty}
+use Rattle.cause.specs.declared.Verdict.the-variants.{Accepted, Refused}
 use Rattle.cause.proofs.CauseLaws.{number-most}
-use Rattle.text.specs.Lines.{decimal, spaced, newline, faultWords, verdictLine, refusalLine, leastRoom, roomOf, answerOf}
+use Rattle.text.specs.Lines.{decimal, spaced, newline, faultWords, verdictLine, refusalLine, minRoom, roomOf, answerOf}
 use Rattle.text.proofs.DecimalLaws.{decimal-digits, spaced-most, spaced-small}
 
 -- what a copy to the front of a lent part `&mut l[a..]` makes of the whole
@@ -90,29 +90,29 @@ fault-written l a c p k d e f m n o same room cause place end =
     (wrote-more (omega arith) v (wrote-more (omega (arith, v .end, v .long)) w x))
 
 -- a line in a room that is large enough, and one that is not written
-pub line-written : (line l d : List ℕ) (n : ℕ) → leastRoom ≤ length l → Wrote l 0 line d n → (n ≡ answerOf line l) × (d ≡ roomOf line l)
+pub line-written : (line l d : List ℕ) (n : ℕ) → minRoom ≤ length l → Wrote l 0 line d n → (n ≡ answerOf line l) × (d ≡ roomOf line l)
 line-written line l d n large w =
-    let e = le-ltb (length l) leastRoom large in (
+    let e = le-ltb (length l) minRoom large in (
       w .end ∙ zero-add (length line) ∙ ap (λ (t : Bool). pick t 0 (length line)) (sym e),
       w .room ∙ ap (λ (t : Bool). pick t l (put 0 line l)) (sym e),
     )
 
-pub line-refused : (line l : List ℕ) → length l < leastRoom → (0 ≡ answerOf line l) × (l ≡ roomOf line l)
+pub line-refused : (line l : List ℕ) → length l < minRoom → (0 ≡ answerOf line l) × (l ≡ roomOf line l)
 line-refused line l small =
-    let e = lt-ltb (length l) leastRoom small in (
+    let e = lt-ltb (length l) minRoom small in (
       ap (λ (t : Bool). pick t 0 (length line)) (sym e),
       ap (λ (t : Bool). pick t l (put 0 line l)) (sym e),
     )
 
 -- every line fits the least room, and stands at the front of a room that is large enough
-pub verdict-most : (e : ℕ) (v : Verdict) → length (verdictLine e v) ≤ leastRoom
-verdict-most e Sound = omega (arith, spaced-most e, length-append (spaced e) newline)
-verdict-most e (Faulty c p) = omega (arith, spaced-most e, fault-most c p, length-append (spaced e) (faultWords c p))
+pub verdict-most : (e : ℕ) (v : Verdict) → length (verdictLine e v) ≤ minRoom
+verdict-most e Accepted = omega (arith, spaced-most e, length-append (spaced e) newline)
+verdict-most e (Refused c p) = omega (arith, spaced-most e, fault-most c p, length-append (spaced e) (faultWords c p))
 
-pub refusal-most : (c : Cause) (p : ℕ) → length (refusalLine c p) ≤ leastRoom
+pub refusal-most : (c : Cause) (p : ℕ) → length (refusalLine c p) ≤ minRoom
 refusal-most c p = omega (arith, fault-most c p)
 
-pub line-front : (line l : List ℕ) → leastRoom ≤ length l → take (answerOf line l) (roomOf line l) ≡ line
+pub line-front : (line l : List ℕ) → minRoom ≤ length l → take (answerOf line l) (roomOf line l) ≡ line
 line-front line l large =
-    ap (λ (t : Bool). take (pick t 0 (length line)) (pick t l (put 0 line l))) (le-ltb (length l) leastRoom large)
+    ap (λ (t : Bool). take (pick t 0 (length line)) (pick t l (put 0 line l))) (le-ltb (length l) minRoom large)
     ∙ take-append-seam line (drop (0 + length line) l)

@@ -8,7 +8,7 @@ use Rattle.lists.specs.Parts.{put}
 use Rattle.cause.specs.Causes.{causeNumber}
 use Rattle.cause.specs.declared.Cause.{Cause}
 use Rattle.cause.specs.declared.Verdict.{Verdict}
-use Rattle.cause.specs.declared.Verdict.the-variants.{Sound, Faulty}
+use Rattle.cause.specs.declared.Verdict.the-variants.{Accepted, Refused}
 use Rattle.text.specs.Ascii.{bytesOf}
 
 -- the digits of n, at most k of them, the most significant first
@@ -33,21 +33,21 @@ faultWords c p = spaced (causeNumber c) ++ (spaced p ++ newline)
 
 -- "accepted E" or "refused E C P" and a newline: a verdict behind e entries
 abbrev pub verdictLine : ℕ → Verdict → List ℕ
-verdictLine e Sound = bytesOf "accepted" ++ (spaced e ++ newline)
-verdictLine e (Faulty c p) = bytesOf "refused" ++ (spaced e ++ faultWords c p)
+verdictLine e Accepted = bytesOf "accepted" ++ (spaced e ++ newline)
+verdictLine e (Refused c p) = bytesOf "refused" ++ (spaced e ++ faultWords c p)
 
 -- "refused C P" and a newline
 abbrev pub refusalLine : Cause → ℕ → List ℕ
 refusalLine c p = bytesOf "refused" ++ faultWords c p
 
 -- the least room for a line
-abbrev pub leastRoom : ℕ
-leastRoom = 64
+abbrev pub minRoom : ℕ
+minRoom = 64
 
 -- the room behind the writing of a line: the line at its front, or as it was where it is less than the least
 abbrev pub roomOf : List ℕ → List ℕ → List ℕ
-roomOf line room = pick (ltb (length room) leastRoom) room (put 0 line room)
+roomOf line room = pick (ltb (length room) minRoom) room (put 0 line room)
 
 -- what is answered: the bytes written
 abbrev pub answerOf : List ℕ → List ℕ → ℕ
-answerOf line room = pick (ltb (length room) leastRoom) 0 (length line)
+answerOf line room = pick (ltb (length room) minRoom) 0 (length line)

@@ -9,10 +9,10 @@ use cause::Verdict;
 use cause::number_cause;
 
 // The least room for a line.
-const LEAST_ROOM: usize = 64;
+const MIN_ROOM: usize = 64;
 
 // The digits of the largest number of 64 bits.
-const MOST_DIGITS: usize = 20;
+const MAX_DIGITS: usize = 20;
 
 // Writes a word at `at`, and answers the offset behind it.
 fn write_word(word: &[u8], room: &mut [u8], at: usize) -> usize
@@ -29,7 +29,7 @@ fn write_number(value: u64, room: &mut [u8], at: usize) -> usize
     ensures end { λ r. ⌜ r ≡ at + length (spaced value) ⌝ }
     ensures room { λ _. ⌜ now (room .exit) ≡ put at (spaced value) (now (room .entry)) ⌝ }
 {
-    let mut digits = [0u8; MOST_DIGITS];
+    let mut digits = [0u8; MAX_DIGITS];
     let n = io::decimal(value, &mut digits);
     let behind = write_word(b" ", room, at);
     write_word(&digits[0..n], room, behind)
@@ -52,16 +52,16 @@ pub fn write_verdict(entries: u64, verdict: Verdict, room: &mut [u8]) -> usize
     ensures length { λ r. ⌜ r ≡ answerOf (verdictLine entries verdict) (now (room .entry)) ⌝ }
     ensures room { λ _. ⌜ now (room .exit) ≡ roomOf (verdictLine entries verdict) (now (room .entry)) ⌝ }
 {
-    if room.len() < LEAST_ROOM {
+    if room.len() < MIN_ROOM {
         return 0;
     }
     match verdict {
-        Verdict::Sound => {
+        Verdict::Accepted => {
             let word = write_word(b"accepted", room, 0);
             let end = write_number(entries, room, word);
             write_word(b"\n", room, end)
         }
-        Verdict::Faulty(cause, place) => {
+        Verdict::Refused(cause, place) => {
             let word = write_word(b"refused", room, 0);
             let count = write_number(entries, room, word);
             write_fault(cause, place, room, count)
@@ -74,7 +74,7 @@ pub fn write_refusal(cause: Cause, place: u64, room: &mut [u8]) -> usize
     ensures length { λ r. ⌜ r ≡ answerOf (refusalLine cause place) (now (room .entry)) ⌝ }
     ensures room { λ _. ⌜ now (room .exit) ≡ roomOf (refusalLine cause place) (now (room .entry)) ⌝ }
 {
-    if room.len() < LEAST_ROOM {
+    if room.len() < MIN_ROOM {
         return 0;
     }
     let word = write_word(b"refused", room, 0);

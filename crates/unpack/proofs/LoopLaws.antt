@@ -5,7 +5,7 @@ use mathlib.Core.Bool.{false}
 use mathlib.Core.List.{List, []}
 use native.Mathlib.Omega.{arith}
 use lib.ListN.{length}
-use Rattle.unpacker.specs.Stepping.{leastRoom, freshUnpacker}
+use Rattle.unpacker.specs.Stepping.{minRoom, freshUnpacker}
 use Rattle.unpacker.specs.declared.unpack.Unpacker.{Unpacker}
 use Rattle.unpack.specs.Turns.{held, Taken, none, Ended}
 use Rattle.unpack.specs.declared.Progress.the-variants.{On, Over}
@@ -19,12 +19,12 @@ pub record Looping (buf₀ room₀ buf room : List ℕ) (s : Unpacker) (w : Wind
   pub size : length buf ≡ 65536
   pub buf-same : length buf ≡ length buf₀
   pub room-same : length room ≡ length room₀
-  pub large : leastRoom ≤ length room
+  pub large : minRoom ≤ length room
   pub inside : w .at ≤ w .have
   pub within : w .have ≤ length buf
   pub turns : SoFar s (held w buf) (w .ended)
 
-pub looping-first : (buf room : List ℕ) (s : Unpacker) (w : Window) → length buf ≡ 65536 → leastRoom ≤ length room → s ≡ freshUnpacker
+pub looping-first : (buf room : List ℕ) (s : Unpacker) (w : Window) → length buf ≡ 65536 → minRoom ≤ length room → s ≡ freshUnpacker
     → w ≡ record { at = 0; have = 0; ended = false; progress = On } → Looping buf room buf room s w
 looping-first buf room s w size large es ew =
     subst (λ (x : Window). Looping buf room buf room s x) (sym ew)

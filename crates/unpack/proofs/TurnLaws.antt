@@ -12,7 +12,7 @@ use Rattle.lists.specs.Pick.{pick}
 use Rattle.lists.specs.Parts.{part, put}
 use Rattle.lists.proofs.PartLaws.{length-part}
 use Rattle.cause.specs.declared.Verdict.{Verdict}
-use Rattle.unpacker.specs.Stepping.{leastRoom, turn, answered, noRoom, consuming, consumedRoom}
+use Rattle.unpacker.specs.Stepping.{minRoom, turn, answered, noRoom, consuming, consumedRoom}
 use Rattle.unpacker.specs.Stepping.{Turn as Call}
 use Rattle.unpacker.specs.Cutting.{leftBy}
 use Rattle.unpacker.specs.declared.unpack.Unpacker.{Unpacker}
@@ -38,7 +38,7 @@ part-left buf at have u inside within few =
     ∙ ap (take (have - (at + u))) (drop-drop u at buf))
 
 -- a call on what a window holds
-module _ (s : Unpacker) (w : Window) (buf room : List ℕ) (ok : (w .at ≤ w .have) × (w .have ≤ length buf) × (leastRoom ≤ length room))
+module _ (s : Unpacker) (w : Window) (buf room : List ℕ) (ok : (w .at ≤ w .have) × (w .have ≤ length buf) × (minRoom ≤ length room))
     (r : Unpacked) (er : r ≡ consuming s (held w buf) (w .ended) (length room)) where
   abbrev b : List ℕ
   b = held w buf
@@ -46,8 +46,8 @@ module _ (s : Unpacker) (w : Window) (buf room : List ℕ) (ok : (w .at ≤ w .h
   abbrev call : Call
   call = turn s b (w .ended)
 
-  large : ltb (length room) leastRoom ≡ false
-  large = le-ltb (length room) leastRoom (ok .2)
+  large : ltb (length room) minRoom ≡ false
+  large = le-ltb (length room) minRoom (ok .2)
 
   made : r ≡ answered call
   made = er ∙ ap (λ (t : Bool). pick t (noRoom s) (answered call)) large
@@ -179,5 +179,5 @@ module _ (s : Unpacker) (w : Window) (buf after : List ℕ) (r : Turn) (inside :
   nearer = by-steps (turn-steps s x (w .ended))
 
 -- the text of a turn lies in the room
-pub written-fits : (s : Unpacker) (x : List ℕ) (ended : Bool) (buf : List ℕ) (r : Turn) → Taken s x ended buf r → r .written ≤ leastRoom
+pub written-fits : (s : Unpacker) (x : List ℕ) (ended : Bool) (buf : List ℕ) (r : Turn) → Taken s x ended buf r → r .written ≤ minRoom
 written-fits s x ended buf r h = omega (arith, h .written, turn-fits s x ended)

@@ -4,12 +4,12 @@ ghost use mathlib.Core.Path.{_≡_};
 ghost use Prim.Native.Nat.{_-_, _≤_};
 ghost use lib.ListN.{length};
 ghost use Rattle.lists.specs.Parts.{part};
-ghost use Rattle.unpacker.specs.Stepping.{leastRoom};
+ghost use Rattle.unpacker.specs.Stepping.{minRoom};
 ghost use Rattle.unpack.specs.Turns.{held, Filled, Taken, printed, Ended};
 use input::Refill;
 use input::read_more;
 use libc::STDOUT_FILENO;
-use unpacker::LEAST_ROOM;
+use unpacker::MIN_ROOM;
 use unpacker::Outcome;
 use unpacker::Unpacker;
 
@@ -65,7 +65,7 @@ fn refill(buf: &mut [u8], at: usize, have: usize) -> Window
 
 // One turn: a call on the bytes at hand, and a refill where it asks for more.
 fn take_turn(unpacker: Unpacker, window: Window, buf: &mut [u8], room: &mut [u8]) -> Turn
-    requires { ⌜ (window .at ≤ window .have) × (window .have ≤ length (now buf)) × (leastRoom ≤ length (now room)) ⌝ }
+    requires { ⌜ (window .at ≤ window .have) × (window .have ≤ length (now buf)) × (minRoom ≤ length (now room)) ⌝ }
     ensures turn { λ r. ⌜ Taken unpacker (held window (now (buf .entry))) (window .ended) (now (buf .exit)) r ⌝ }
     ensures room { λ _. ⌜ now (room .exit) ≡ printed unpacker (held window (now (buf .entry))) (window .ended) (now (room .entry)) ⌝ }
 {
@@ -97,7 +97,7 @@ fn take_turn(unpacker: Unpacker, window: Window, buf: &mut [u8], room: &mut [u8]
 
 // Takes turns and prints the text of each, until the verdict is there or a read or a write fails.
 fn unpack_input(buf: &mut [u8], room: &mut [u8]) -> Progress
-    requires { ⌜ (length (now buf) ≡ 65536) × (leastRoom ≤ length (now room)) ⌝ }
+    requires { ⌜ (length (now buf) ≡ 65536) × (minRoom ≤ length (now room)) ⌝ }
     ensures { λ r. ⌜ Ended r ⌝ }
 {
     let mut unpacker = Unpacker::fresh();
@@ -122,7 +122,7 @@ fn unpack_input(buf: &mut [u8], room: &mut [u8]) -> Progress
 
 fn main() {
     let mut buf = io::large_buffer();
-    let mut room = [0u8; LEAST_ROOM];
+    let mut room = [0u8; MIN_ROOM];
     let progress = unpack_input(&mut buf, &mut room);
     match progress {
         Progress::On => {}

@@ -13,7 +13,7 @@ use Rattle.lists.specs.Pick.{pick}
 use Rattle.lists.proofs.Tests.{cases}
 use Rattle.cause.specs.declared.Cause.the-variants.{BrokenRecord, TooLong, InvalidState}
 use Rattle.cause.specs.declared.Verdict.{Verdict}
-use Rattle.cause.specs.declared.Verdict.the-variants.{Sound, Faulty}
+use Rattle.cause.specs.declared.Verdict.the-variants.{Accepted, Refused}
 use Rattle.container.specs.declared.grant.Grant.{Grant}
 use Rattle.record.specs.Number.{readNumber}
 use Rattle.record.specs.declared.number.Number.{Number}
@@ -23,10 +23,10 @@ use Rattle.record.proofs.NumberTakes.{Takes, takes-number, number-append}
 use Rattle.reader.specs.Reading.{readerWith, records, reading}
 use Rattle.reader.specs.declared.reader.Reader.{Reader}
 use Rattle.reader.specs.declared.reader.Answer.{Answer}
-use Rattle.reader.specs.declared.reader.Answer.the-variants.{Done, Refused}
+use Rattle.reader.specs.declared.reader.Answer.the-variants as answer
 use Rattle.text.specs.Lines.{verdictLine}
 use Rattle.text.specs.Hex.{linesOf}
-use Rattle.unpacker.specs.Unpacking.{most, linesThen, containersText, textBehind}
+use Rattle.unpacker.specs.Unpacking.{maxContainers, linesThen, containersText, textBehind}
 use Rattle.unpacker.specs.Stepping.{mostNumber, Turn, waiting, over, started, beginBy, beginning, stepped}
 use Rattle.unpacker.specs.Stepping.{turnBy, containerTurn, Running, validState, turn, textFrom}
 use Rattle.unpacker.specs.Cutting.{behind, leftBy}
@@ -38,17 +38,17 @@ use Rattle.unpacker.proofs.StateLaws.{text-running, State, bad, new, ru
 -- ---- the containers, one by one
 
 module _ (s : Reader) (e o : ℕ) (l : List ℕ) where
-  containers-none : (k : ℕ) → length l ≡ 0 → containersText k s e o l ≡ verdictLine e Sound
+  containers-none : (k : ℕ) → length l ≡ 0 → containersText k s e o l ≡ verdictLine e Accepted
   unfolding containersText
   containers-none zero z = rw (eq-eqb (length l) 0 z)
   containers-none (suc k) z = rw (eq-eqb (length l) 0 z)
 
   module _ (some : length l ≡ 0 → ⊥) where
-    containers-most : containersText 0 s e o l ≡ verdictLine e (Faulty TooLong 0)
+    containers-most : containersText 0 s e o l ≡ verdictLine e (Refused TooLong 0)
     unfolding containersText
     containers-most = rw (ne-eqb (length l) 0 some)
 
-    containers-short : (k : ℕ) → length l < 256 → containersText (suc k) s e o l ≡ verdictLine e (Faulty BrokenRecord o)
+    containers-short : (k : ℕ) → length l < 256 → containersText (suc k) s e o l ≡ verdictLine e (Refused BrokenRecord o)
     unfolding containersText
     containers-short k h = rw (ne-eqb (length l) 0 some, lt-ltb (length l) 256 h)
 
@@ -81,17 +81,17 @@ started-runs f u b e small =
 
 begin-by : (s : Unpacker) (b m : List ℕ) → s .entries ≡ 0 → (r : Number) → readNumber b ≡ r
     → textBehind (b ++ m) r ≡ onward (beginBy s r) b m
-begin-by s b m z Broken e = line-alone s (Faulty BrokenRecord 0) b m _ (ap (λ (k : ℕ). verdictLine k (Faulty BrokenRecord 0)) (sym z))
+begin-by s b m z Broken e = line-alone s (Refused BrokenRecord 0) b m _ (ap (λ (k : ℕ). verdictLine k (Refused BrokenRecord 0)) (sym z))
 begin-by s b m z (Value f u) e = ⊎-elim good other (cases (ltb f 2))
   where
     good : ltb f 2 ≡ true → textBehind (b ++ m) (Value f u) ≡ onward (beginBy s (Value f u)) b m
     good t =
         let takes : Takes (Value f u) 5 (length b) = subst (λ (r : Number). Takes r 5 (length b)) e (takes-number b) in
-        rw t (ap (λ (x : List ℕ). containersText most (readerWith f []) 0 u x) (drop-append-le u b m (takes .1 .1))
+        rw t (ap (λ (x : List ℕ). containersText maxContainers (readerWith f []) 0 u x) (drop-append-le u b m (takes .1 .1))
         ∙ sym (text-running (started f u) (drop u b ++ m) (started-runs f u b e (ltb-true f 2 t))))
 
     other : ltb f 2 ≡ false → textBehind (b ++ m) (Value f u) ≡ onward (beginBy s (Value f u)) b m
-    other t = rw t (line-alone s (Faulty InvalidState 0) b m _ (ap (λ (k : ℕ). verdictLine k (Faulty InvalidState 0)) (sym z)))
+    other t = rw t (line-alone s (Refused InvalidState 0) b m _ (ap (λ (k : ℕ). verdictLine k (Refused InvalidState 0)) (sym z)))
 
 -- nothing that follows changes the number
 number-same : (b m : List ℕ) (ended : Bool) → Ends ended m → pick ended true (leb mostNumber (length b)) ≡ true
@@ -115,40 +115,40 @@ new-call s b m ended ends good z = ⊎-elim there short (cases (pick ended true 
 -- ---- behind the format
 
 -- the state behind an accepted container is valid
-stepped-runs : (s : Unpacker) (c : List ℕ) (n : ℕ) (g : Grant) → Running s → s .entries < most
-    → reading (s .reader) c 352 .answer ≡ Done n g
+stepped-runs : (s : Unpacker) (c : List ℕ) (n : ℕ) (g : Grant) → Running s → s .entries < maxContainers
+    → reading (s .reader) c 352 .answer ≡ answer.Accepted n g
     → Running (stepped s (reading (s .reader) c 352 .reader))
 stepped-runs s c n g r few e = record { few = omega arith; reached = omega (arith, r .reached); kept = done-valid (s .reader) c n g e }
 
 module _ (s : Unpacker) (b m : List ℕ) (r : Running s) where
   -- the text for what is left, where k containers more are allowed
-  left : (k : ℕ) → most - s .entries ≡ k → textFrom s (b ++ m) ≡ containersText k (s .reader) (s .entries) (s .offset) (b ++ m)
+  left : (k : ℕ) → maxContainers - s .entries ≡ k → textFrom s (b ++ m) ≡ containersText k (s .reader) (s .entries) (s .offset) (b ++ m)
   left k e = text-running s (b ++ m) r ∙ ap (λ (j : ℕ). containersText j (s .reader) (s .entries) (s .offset) (b ++ m)) e
 
   some-left : (length b ≡ 0 → ⊥) → length (b ++ m) ≡ 0 → ⊥
   some-left some z = some (omega (arith, length-append b m))
 
-  ended-none : m ≡ [] → length b ≡ 0 → textFrom s (b ++ m) ≡ onward (over s Sound) b m
+  ended-none : m ≡ [] → length b ≡ 0 → textFrom s (b ++ m) ≡ onward (over s Accepted) b m
   ended-none em z =
-      line-alone s Sound b m _
-      (left (most - s .entries) refl ∙ containers-none (s .reader) (s .entries) (s .offset) (b ++ m) (most - s .entries)
+      line-alone s Accepted b m _
+      (left (maxContainers - s .entries) refl ∙ containers-none (s .reader) (s .entries) (s .offset) (b ++ m) (maxContainers - s .entries)
       (omega (arith, length-append b m, ap length em)))
 
-  too-many : most ≤ s .entries → (length b ≡ 0 → ⊥) → textFrom s (b ++ m) ≡ onward (over s (Faulty TooLong 0)) b m
+  too-many : maxContainers ≤ s .entries → (length b ≡ 0 → ⊥) → textFrom s (b ++ m) ≡ onward (over s (Refused TooLong 0)) b m
   too-many h some =
-      line-alone s (Faulty TooLong 0) b m _
+      line-alone s (Refused TooLong 0) b m _
       (left 0 (omega arith) ∙ containers-most (s .reader) (s .entries) (s .offset) (b ++ m) (some-left some))
 
-  module _ (few : s .entries < most) (some : length b ≡ 0 → ⊥) where
+  module _ (few : s .entries < maxContainers) (some : length b ≡ 0 → ⊥) where
     abbrev k : ℕ
-    k = most - (s .entries + 1)
+    k = maxContainers - (s .entries + 1)
 
-    one-more : most - s .entries ≡ suc k
+    one-more : maxContainers - s .entries ≡ suc k
     one-more = omega arith
 
-    ended-short : m ≡ [] → length b < 256 → textFrom s (b ++ m) ≡ onward (over s (Faulty BrokenRecord (s .offset))) b m
+    ended-short : m ≡ [] → length b < 256 → textFrom s (b ++ m) ≡ onward (over s (Refused BrokenRecord (s .offset))) b m
     ended-short em h =
-        line-alone s (Faulty BrokenRecord (s .offset)) b m _
+        line-alone s (Refused BrokenRecord (s .offset)) b m _
         (left (suc k) one-more ∙ containers-short (s .reader) (s .entries) (s .offset) (b ++ m) (some-left some) k
         (omega (arith, length-append b m, ap length em)))
 
@@ -161,10 +161,10 @@ module _ (s : Unpacker) (b m : List ℕ) (r : Running s) where
           → linesThen (s .entries) a (linesOf (records (s .reader) c))
           (containersText k (reading (s .reader) c 352 .reader) (s .entries + 1) (s .offset + 256) (drop 256 b ++ m))
           ≡ onward (turnBy s (reading (s .reader) c 352 .reader) (linesOf (records (s .reader) c)) a) b m
-      read-by (Done n g) e =
+      read-by (answer.Accepted n g) e =
           ap (λ (x : List ℕ). linesOf (records (s .reader) c) ++ x)
           (sym (text-running (stepped s (reading (s .reader) c 352 .reader)) (drop 256 b ++ m) (stepped-runs s c n g r few e)))
-      read-by (Refused q p) e = line-alone s (Faulty q p) b m _ refl
+      read-by (answer.Refused q p) e = line-alone s (Refused q p) b m _ refl
 
       whole : textFrom s (b ++ m) ≡ onward (containerTurn s c) b m
       whole =
@@ -179,32 +179,32 @@ module _ (s : Unpacker) (b m : List ℕ) (r : Running s) where
           ∙ read-by (reading (s .reader) c 352 .answer) refl
 
   -- by the tests of a call
-  by-length : (ended : Bool) → Ends ended m → s .entries < most → (length b ≡ 0 → ⊥) → (t : Bool) → ltb (length b) 256 ≡ t
+  by-length : (ended : Bool) → Ends ended m → s .entries < maxContainers → (length b ≡ 0 → ⊥) → (t : Bool) → ltb (length b) 256 ≡ t
       → textFrom s (b ++ m) ≡ onward
-      (pick t (pick ended (over s (Faulty BrokenRecord (s .offset))) (waiting s)) (containerTurn s (take 256 b))) b m
+      (pick t (pick ended (over s (Refused BrokenRecord (s .offset))) (waiting s)) (containerTurn s (take 256 b))) b m
   by-length true ends few some true e = ended-short few some (ends refl) (ltb-true (length b) 256 e)
   by-length false ends few some true e = refl
   by-length ended ends few some false e = whole few some (ltb-false (length b) 256 e)
 
-  by-count : (ended : Bool) → Ends ended m → (length b ≡ 0 → ⊥) → (t : Bool) → leb most (s .entries) ≡ t
+  by-count : (ended : Bool) → Ends ended m → (length b ≡ 0 → ⊥) → (t : Bool) → leb maxContainers (s .entries) ≡ t
       → textFrom s (b ++ m) ≡ onward
-      (pick t (over s (Faulty TooLong 0))
-      (pick (ltb (length b) 256) (pick ended (over s (Faulty BrokenRecord (s .offset))) (waiting s)) (containerTurn s (take 256 b)))) b m
-  by-count ended ends some true e = too-many (leb-true most (s .entries) e) some
-  by-count ended ends some false e = by-length ended ends (leb-false most (s .entries) e) some (ltb (length b) 256) refl
+      (pick t (over s (Refused TooLong 0))
+      (pick (ltb (length b) 256) (pick ended (over s (Refused BrokenRecord (s .offset))) (waiting s)) (containerTurn s (take 256 b)))) b m
+  by-count ended ends some true e = too-many (leb-true maxContainers (s .entries) e) some
+  by-count ended ends some false e = by-length ended ends (leb-false maxContainers (s .entries) e) some (ltb (length b) 256) refl
 
   running-call : (ended : Bool) → Ends ended m → (t : Bool) → eqb (length b) 0 ≡ t
       → textFrom s (b ++ m) ≡ onward
-      (pick t (pick ended (over s Sound) (waiting s))
-      (pick (leb most (s .entries)) (over s (Faulty TooLong 0))
-      (pick (ltb (length b) 256) (pick ended (over s (Faulty BrokenRecord (s .offset))) (waiting s)) (containerTurn s (take 256 b))))) b m
+      (pick t (pick ended (over s Accepted) (waiting s))
+      (pick (leb maxContainers (s .entries)) (over s (Refused TooLong 0))
+      (pick (ltb (length b) 256) (pick ended (over s (Refused BrokenRecord (s .offset))) (waiting s)) (containerTurn s (take 256 b))))) b m
   running-call true ends true e = ended-none (ends refl) (eqb-true (length b) 0 e)
   running-call false ends true e = refl
-  running-call ended ends false e = by-count ended ends (eqb-false (length b) 0 e) (leb most (s .entries)) refl
+  running-call ended ends false e = by-count ended ends (eqb-false (length b) 0 e) (leb maxContainers (s .entries)) refl
 
 call-by : (s : Unpacker) (b m : List ℕ) (ended : Bool) → Ends ended m → State s → textFrom s (b ++ m) ≡ onward (turn s b ended) b m
 call-by s b m ended ends (bad e) =
-    line-alone s (Faulty InvalidState 0) b m _ (text-bad s (b ++ m) e) ∙ ap (λ (t : Turn). onward t b m) (sym (turn-bad s b ended e))
+    line-alone s (Refused InvalidState 0) b m _ (text-bad s (b ++ m) e) ∙ ap (λ (t : Turn). onward t b m) (sym (turn-bad s b ended e))
 call-by s b m ended ends (new good z) = new-call s b m ended ends good z ∙ ap (λ (t : Turn). onward t b m) (sym (turn-new s b ended good z))
 call-by s b m ended ends (runs r) =
     running-call s b m r ended ends (eqb (length b) 0) refl ∙ ap (λ (t : Turn). onward t b m) (sym (turn-running s b ended r))

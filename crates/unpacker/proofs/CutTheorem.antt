@@ -14,7 +14,7 @@ use Rattle.lists.proofs.Tests.{cases, never-both}
 use Rattle.lists.proofs.PickLaws.{pick-both, pick-by}
 use Rattle.cause.specs.declared.Cause.the-variants.{BrokenRecord, InvalidState, TooLong}
 use Rattle.cause.specs.declared.Verdict.{Verdict}
-use Rattle.cause.specs.declared.Verdict.the-variants.{Sound, Faulty}
+use Rattle.cause.specs.declared.Verdict.the-variants.{Accepted, Refused}
 use Rattle.record.specs.Number.{readNumber}
 use Rattle.record.specs.declared.number.Number.{Number}
 use Rattle.record.specs.declared.number.Number.the-variants.{Broken, Value}
@@ -22,8 +22,8 @@ use Rattle.record.proofs.NumberTakes.{Takes, takes-number}
 use Rattle.reader.specs.Reading.{reading}
 use Rattle.reader.specs.declared.reader.Reader.{Reader}
 use Rattle.reader.specs.declared.reader.Answer.{Answer}
-use Rattle.reader.specs.declared.reader.Answer.the-variants.{Done, Refused}
-use Rattle.unpacker.specs.Unpacking.{most, unpackText}
+use Rattle.reader.specs.declared.reader.Answer.the-variants as answer
+use Rattle.unpacker.specs.Unpacking.{maxContainers, unpackText}
 use Rattle.unpacker.specs.Stepping.{mostNumber, Turn, waiting, over, beginBy, turnBy}
 use Rattle.unpacker.specs.Stepping.{running, Running, validState, turn, freshUnpacker, textFrom}
 use Rattle.unpacker.specs.Cutting.{behind, leftBy, run}
@@ -37,7 +37,7 @@ use Rattle.unpacker.proofs.CallTheorem.{onward, one-call}
 
 -- the calls that may still go on
 abbrev pub callsLeft : Unpacker → ℕ
-callsLeft s = pick (eqb (s .offset) 0) (most + 2) ((most + 1) - s .entries)
+callsLeft s = pick (eqb (s .offset) 0) (maxContainers + 2) ((maxContainers + 1) - s .entries)
 
 pub data Steps (s : Unpacker) (b : List ℕ) (ended : Bool) (t : Turn) : Type 0 where
   stops : (v : Verdict) → t .outcome ≡ Over v → t .used ≡ 0 → Steps s b ended t
@@ -49,43 +49,43 @@ ended-steps : (s : Unpacker) (b : List ℕ) (ended : Bool) (v : Verdict) → Ste
 ended-steps s b true v = stops v refl refl
 ended-steps s b false v = waits refl refl refl refl
 
-left-new : (s : Unpacker) → s .offset ≡ 0 → callsLeft s ≡ most + 2
+left-new : (s : Unpacker) → s .offset ≡ 0 → callsLeft s ≡ maxContainers + 2
 left-new s z = rw (eq-eqb (s .offset) 0 z)
 
-left-running : (s : Unpacker) → (s .offset ≡ 0 → ⊥) → callsLeft s ≡ (most + 1) - s .entries
+left-running : (s : Unpacker) → (s .offset ≡ 0 → ⊥) → callsLeft s ≡ (maxContainers + 1) - s .entries
 left-running s d = rw (ne-eqb (s .offset) 0 d)
 
 begin-steps : (s : Unpacker) (b : List ℕ) (ended : Bool) → s .offset ≡ 0 → (r : Number) → readNumber b ≡ r → Steps s b ended (beginBy s r)
-begin-steps s b ended z Broken e = stops (Faulty BrokenRecord 0) refl refl
+begin-steps s b ended z Broken e = stops (Refused BrokenRecord 0) refl refl
 begin-steps s b ended z (Value f u) e =
     let takes : Takes (Value f u) 5 (length b) = subst (λ (r : Number). Takes r 5 (length b)) e (takes-number b) in
     let some = takes .0 in
-    let fewer : pick (eqb u 0) (most + 2) ((most + 1) - 0) < callsLeft s = rw (ne-eqb u 0 (λ (q : u ≡ 0). omega arith), left-new s z)
+    let fewer : pick (eqb u 0) (maxContainers + 2) ((maxContainers + 1) - 0) < callsLeft s = rw (ne-eqb u 0 (λ (q : u ≡ 0). omega arith), left-new s z)
     (omega arith) in
     ⊎-elim (λ (t : ltb f 2 ≡ true). rw t (goes refl some (takes .1 .1) fewer))
-    (λ (t : ltb f 2 ≡ false). rw t (stops (Faulty InvalidState 0) refl refl)) (cases (ltb f 2))
+    (λ (t : ltb f 2 ≡ false). rw t (stops (Refused InvalidState 0) refl refl)) (cases (ltb f 2))
 
 running-some : (s : Unpacker) → Running s → s .offset ≡ 0 → ⊥
 running-some s r z = omega (arith, r .reached)
 
 module _ (s : Unpacker) (b : List ℕ) (ended : Bool) (r : Running s) where
-  read-steps : s .entries < most → 256 ≤ length b → (next : Reader) (lines : List ℕ) (a : Answer) → Steps s b ended (turnBy s next lines a)
-  read-steps few long next lines (Done n g) =
+  read-steps : s .entries < maxContainers → 256 ≤ length b → (next : Reader) (lines : List ℕ) (a : Answer) → Steps s b ended (turnBy s next lines a)
+  read-steps few long next lines (answer.Accepted n g) =
       let here = left-running s (running-some s r) in
-      let there : pick (eqb (s .offset + 256) 0) (most + 2) ((most + 1) - (s .entries + 1)) ≡ (most + 1) - (s .entries + 1) =
+      let there : pick (eqb (s .offset + 256) 0) (maxContainers + 2) ((maxContainers + 1) - (s .entries + 1)) ≡ (maxContainers + 1) - (s .entries + 1) =
       rw (ne-eqb (s .offset + 256) 0 (λ (q : s .offset + 256 ≡ 0). omega arith)) in
       goes refl (omega arith) long (omega arith)
-  read-steps few long next lines (Refused c p) = stops (Faulty c p) refl refl
+  read-steps few long next lines (answer.Refused c p) = stops (Refused c p) refl refl
 
   running-steps : Steps s b ended (running s b ended)
   running-steps =
-      pick-both (Steps s b ended) (eqb (length b) 0) (ended-steps s b ended Sound)
-      (pick-by (Steps s b ended) (leb most (s .entries)) (λ e. stops (Faulty TooLong 0) refl refl)
-      (λ some. pick-by (Steps s b ended) (ltb (length b) 256) (λ e. ended-steps s b ended (Faulty BrokenRecord (s .offset)))
-      (λ e. read-steps (leb-false most (s .entries) some) (ltb-false (length b) 256 e) _ _ (reading (s .reader) (take 256 b) 352 .answer))))
+      pick-both (Steps s b ended) (eqb (length b) 0) (ended-steps s b ended Accepted)
+      (pick-by (Steps s b ended) (leb maxContainers (s .entries)) (λ e. stops (Refused TooLong 0) refl refl)
+      (λ some. pick-by (Steps s b ended) (ltb (length b) 256) (λ e. ended-steps s b ended (Refused BrokenRecord (s .offset)))
+      (λ e. read-steps (leb-false maxContainers (s .entries) some) (ltb-false (length b) 256 e) _ _ (reading (s .reader) (take 256 b) 352 .answer))))
 
 steps-by : (s : Unpacker) (b : List ℕ) (ended : Bool) → State s → Steps s b ended (turn s b ended)
-steps-by s b ended (bad e) = subst (Steps s b ended) (sym (turn-bad s b ended e)) (stops (Faulty InvalidState 0) refl refl)
+steps-by s b ended (bad e) = subst (Steps s b ended) (sym (turn-bad s b ended e)) (stops (Refused InvalidState 0) refl refl)
 steps-by s b ended (new good z) =
     subst (Steps s b ended) (sym (turn-new s b ended good z))
     (pick-by (Steps s b ended) (pick ended true (leb mostNumber (length b))) (λ t. begin-steps s b ended z (readNumber b) refl)

@@ -9,11 +9,11 @@ use lib.Dec.{eqb, leb}
 use borrow.Author.Tests.{lt-leb, le-leb, leb-true, eq-eqb, ne-eqb, eqb-true, eqb-false}
 use Rattle.lists.proofs.Tests.{cases, and-left, and-right, and-both}
 use Rattle.cause.specs.declared.Cause.the-variants.{InvalidState}
-use Rattle.cause.specs.declared.Verdict.the-variants.{Faulty}
+use Rattle.cause.specs.declared.Verdict.the-variants.{Refused}
 use Rattle.record.specs.Number.{readNumber}
 use Rattle.reader.specs.Reading.{readerOk}
 use Rattle.text.specs.Lines.{verdictLine}
-use Rattle.unpacker.specs.Unpacking.{most, containersText, textBehind}
+use Rattle.unpacker.specs.Unpacking.{maxContainers, containersText, textBehind}
 use Rattle.unpacker.specs.Stepping.{over, beginning, running, Running, validState, turn, textFrom}
 use Rattle.unpacker.specs.declared.unpack.Unpacker.{Unpacker}
 
@@ -28,16 +28,16 @@ module _ (s : Unpacker) where
   valid-new z = rw (eq-eqb (s .offset) 0 z)
 
   module _ (some : s .offset ≡ 0 → ⊥) where
-    behind : validState s ≡ (leb (s .entries) most && far)
+    behind : validState s ≡ (leb (s .entries) maxContainers && far)
     unfolding validState
     behind = rw (ne-eqb (s .offset) 0 some)
 
-    pub valid-many : most < s .entries → false ≡ validState s
-    valid-many h = sym (behind ∙ ap (λ (t : Bool). t && far) (lt-leb (s .entries) most h))
+    pub valid-many : maxContainers < s .entries → false ≡ validState s
+    valid-many h = sym (behind ∙ ap (λ (t : Bool). t && far) (lt-leb (s .entries) maxContainers h))
 
-    module _ (few : s .entries ≤ most) where
+    module _ (few : s .entries ≤ maxContainers) where
       counted : validState s ≡ far
-      counted = behind ∙ ap (λ (t : Bool). t && far) (le-leb (s .entries) most few)
+      counted = behind ∙ ap (λ (t : Bool). t && far) (le-leb (s .entries) maxContainers few)
 
       pub valid-far : (s .offset ≡ 256 * s .entries + 1 → ⊥) → false ≡ validState s
       valid-far d = sym (counted ∙ ap (λ (t : Bool). t && readerOk (s .reader)) (ne-eqb (s .offset) (256 * s .entries + 1) d))
@@ -47,10 +47,10 @@ module _ (s : Unpacker) where
 
     pub valid-running : validState s ≡ true → Running s
     valid-running e =
-        let h : (leb (s .entries) most && far) ≡ true = sym behind ∙ e in
-        let r = and-right (leb (s .entries) most) far h in
+        let h : (leb (s .entries) maxContainers && far) ≡ true = sym behind ∙ e in
+        let r = and-right (leb (s .entries) maxContainers) far h in
         record {
-          few = leb-true (s .entries) most (and-left (leb (s .entries) most) far h);
+          few = leb-true (s .entries) maxContainers (and-left (leb (s .entries) maxContainers) far h);
           reached =
               eqb-true (s .offset) (256 * s .entries + 1) (and-left (eqb (s .offset) (256 * s .entries + 1)) (readerOk (s .reader)) r);
           kept = and-right (eqb (s .offset) (256 * s .entries + 1)) (readerOk (s .reader)) r;
@@ -62,7 +62,7 @@ module _ (s : Unpacker) where
   running-valid : Running s → validState s ≡ true
   running-valid r =
       behind (running-some r)
-      ∙ and-both (leb (s .entries) most) far (le-leb (s .entries) most (r .few))
+      ∙ and-both (leb (s .entries) maxContainers) far (le-leb (s .entries) maxContainers (r .few))
       (and-both (eqb (s .offset) (256 * s .entries + 1)) (readerOk (s .reader)) (eq-eqb (s .offset) (256 * s .entries + 1) (r .reached))
       (r .kept))
 
@@ -72,7 +72,7 @@ module _ (s : Unpacker) where
   -- ---- a call, and the text for what is left
 
   module _ (b : List ℕ) (ended : Bool) where
-    pub turn-bad : validState s ≡ false → turn s b ended ≡ over s (Faulty InvalidState 0)
+    pub turn-bad : validState s ≡ false → turn s b ended ≡ over s (Refused InvalidState 0)
     unfolding turn
     turn-bad e = rw e
 
@@ -85,7 +85,7 @@ module _ (s : Unpacker) where
     turn-running r = rw (running-valid r, ne-eqb (s .offset) 0 (running-some r))
 
   module _ (l : List ℕ) where
-    pub text-bad : validState s ≡ false → textFrom s l ≡ verdictLine (s .entries) (Faulty InvalidState 0)
+    pub text-bad : validState s ≡ false → textFrom s l ≡ verdictLine (s .entries) (Refused InvalidState 0)
     unfolding textFrom
     text-bad e = rw e
 
@@ -93,7 +93,7 @@ module _ (s : Unpacker) where
     unfolding textFrom
     text-new e z = rw (e, eq-eqb (s .offset) 0 z)
 
-    pub text-running : Running s → textFrom s l ≡ containersText (most - s .entries) (s .reader) (s .entries) (s .offset) l
+    pub text-running : Running s → textFrom s l ≡ containersText (maxContainers - s .entries) (s .reader) (s .entries) (s .offset) l
     unfolding textFrom
     text-running r = rw (running-valid r, ne-eqb (s .offset) 0 (running-some r))
 

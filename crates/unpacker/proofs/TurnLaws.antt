@@ -13,23 +13,23 @@ use Rattle.lists.specs.Pick.{pick}
 use Rattle.lists.specs.Parts.{put}
 use Rattle.lists.proofs.Tests.{cases}
 use Rattle.lists.proofs.PutLaws.{put-none}
-use Rattle.cause.specs.Checks.{firstFault, whenSound}
+use Rattle.cause.specs.Checks.{firstFault, whenAccepted}
 use Rattle.cause.specs.declared.Cause.{Cause}
 use Rattle.cause.specs.declared.Cause.the-variants.{BrokenRecord, TooLong, InvalidState}
 use Rattle.cause.specs.declared.Verdict.{Verdict}
-use Rattle.cause.specs.declared.Verdict.the-variants.{Sound, Faulty}
+use Rattle.cause.specs.declared.Verdict.the-variants.{Accepted, Refused}
 use Rattle.container.specs.declared.grant.Grant.{Grant}
 use Rattle.record.specs.Number.{readNumber}
 use Rattle.record.specs.declared.number.Number.{Number}
 use Rattle.record.specs.declared.number.Number.the-variants.{Broken, Value}
-use Rattle.reader.specs.Reading.{opened, readChecks, records, reading, readRoom}
-use Rattle.reader.specs.declared.reader.Opened.{Opened}
+use Rattle.reader.specs.Reading.{newReader, readChecks, records, reading, readRoom}
+use Rattle.reader.specs.declared.reader.Created.{Created}
 use Rattle.reader.specs.declared.reader.Step.{Step}
-use Rattle.reader.specs.declared.reader.Answer.the-variants.{Done, Refused}
+use Rattle.reader.specs.declared.reader.Answer.the-variants as answer
 use Rattle.text.specs.Lines.{verdictLine, answerOf, roomOf}
 use Rattle.text.specs.Hex.{linesOf, linesLength, linesRoom}
-use Rattle.unpacker.specs.Unpacking.{most}
-use Rattle.unpacker.specs.Stepping.{leastRoom, Turn, waiting, over, started, beginBy, beginning, stepped, turnBy}
+use Rattle.unpacker.specs.Unpacking.{maxContainers}
+use Rattle.unpacker.specs.Stepping.{minRoom, Turn, waiting, over, started, beginBy, beginning, stepped, turnBy}
 use Rattle.unpacker.specs.Stepping.{containerTurn, running, turn, answered, noRoom, consuming, consumedRoom}
 use Rattle.unpacker.specs.declared.unpack.Outcome.the-variants.{Next, Over}
 use Rattle.unpacker.specs.declared.unpack.Unpacker.{Unpacker}
@@ -48,7 +48,7 @@ pub waited : (s : Unpacker) (t : Turn) (r : Unpacked) (d : List ℕ) → waiting
 waited s t r d e er = as-turn (waiting s) t r d d e (er, sym (put-none 0 d))
 
 -- the verdict
-pub concluded : (s : Unpacker) (v : Verdict) (d₀ d : List ℕ) (n : ℕ) → leastRoom ≤ length d₀ → n ≡ answerOf (verdictLine (s .entries) v) d₀
+pub concluded : (s : Unpacker) (v : Verdict) (d₀ d : List ℕ) (n : ℕ) → minRoom ≤ length d₀ → n ≡ answerOf (verdictLine (s .entries) v) d₀
     → d ≡ roomOf (verdictLine (s .entries) v) d₀ → Made (over s v) (record { unpacker = s; used = 0; written = n; outcome = Over v }) d₀ d
 concluded s v d₀ d n big en ed =
     let t : ltb (length d₀) 64 ≡ false = le-ltb (length d₀) 64 (omega arith) in
@@ -62,31 +62,31 @@ concluded s v d₀ d n big en ed =
 -- ---- the format
 
 module _ (s : Unpacker) (b : List ℕ) (r : Number) (er : r ≡ readNumber b) where
-  pub format-broken : r ≡ Broken → over s (Faulty BrokenRecord 0) ≡ beginBy s (readNumber b)
+  pub format-broken : r ≡ Broken → over s (Refused BrokenRecord 0) ≡ beginBy s (readNumber b)
   format-broken q = ap (beginBy s) (sym q ∙ er)
 
-  module _ (f u : ℕ) (q : r ≡ Value f u) (o : Opened) (eo : o ≡ opened f) where
-    verdict : o .verdict ≡ opened f .verdict
-    verdict = ap (λ (x : Opened). x .verdict) eo
+  module _ (f u : ℕ) (q : r ≡ Value f u) (o : Created) (eo : o ≡ newReader f) where
+    verdict : o .verdict ≡ newReader f .verdict
+    verdict = ap (λ (x : Created). x .verdict) eo
 
     read : beginBy s (Value f u) ≡ beginBy s (readNumber b)
     read = ap (beginBy s) (sym q ∙ er)
 
-    pub format-refused : (c : Cause) (p : ℕ) → o .verdict ≡ Faulty c p → over s (o .verdict) ≡ beginBy s (readNumber b)
+    pub format-refused : (c : Cause) (p : ℕ) → o .verdict ≡ Refused c p → over s (o .verdict) ≡ beginBy s (readNumber b)
     format-refused c p e =
         ⊎-elim (λ (t : ltb f 2 ≡ true). absurd (never t))
-        (λ (t : ltb f 2 ≡ false). ap (over s) (verdict ∙ ap (λ (x : Bool). pick x Sound (Faulty InvalidState 0)) t) ∙ sym (other t) ∙ read)
+        (λ (t : ltb f 2 ≡ false). ap (over s) (verdict ∙ ap (λ (x : Bool). pick x Accepted (Refused InvalidState 0)) t) ∙ sym (other t) ∙ read)
         (cases (ltb f 2))
       where
         never : ltb f 2 ≡ true → ⊥
         never t = let k = rw t at (sym verdict ∙ e) in let z : _≡_ {A = ℕ} 0 1 = cc in omega arith
 
-        other : ltb f 2 ≡ false → beginBy s (Value f u) ≡ over s (Faulty InvalidState 0)
+        other : ltb f 2 ≡ false → beginBy s (Value f u) ≡ over s (Refused InvalidState 0)
         other t =
-            ap (λ (x : Bool). pick x (record { next = started f u; used = u; text = []; outcome = Next }) (over s (Faulty InvalidState 0)))
+            ap (λ (x : Bool). pick x (record { next = started f u; used = u; text = []; outcome = Next }) (over s (Refused InvalidState 0)))
             t
 
-    pub format-read : (d : List ℕ) → o .verdict ≡ Sound
+    pub format-read : (d : List ℕ) → o .verdict ≡ Accepted
         → Made (beginBy s (readNumber b))
         (record { unpacker = record { reader = o .reader; entries = 0; offset = u }; used = u; written = 0; outcome = Next }) d d
     format-read d e = ⊎-elim yes (λ (t : ltb f 2 ≡ false). absurd (never t)) (cases (ltb f 2))
@@ -100,8 +100,8 @@ module _ (s : Unpacker) (b : List ℕ) (r : Number) (er : r ≡ readNumber b) wh
         yes t =
             as-turn (record { next = started f u; used = u; text = []; outcome = Next }) (beginBy s (readNumber b)) _ d d
             (sym (ap (λ (x : Bool). pick x (record { next = started f u; used = u; text = []; outcome = Next })
-            (over s (Faulty InvalidState 0))) t) ∙ read) (
-              ap (λ (x : Opened). record
+            (over s (Refused InvalidState 0))) t) ∙ read) (
+              ap (λ (x : Created). record
                   { unpacker = record { reader = x .reader; entries = 0; offset = u }; used = u; written = 0; outcome = Next }) eo,
               sym
                   (put-none 0 d),
@@ -119,25 +119,25 @@ module _ (s : Unpacker) (b : List ℕ) (ended : Bool) where
   begin-long e h = rw (e, le-leb 5 (length b) h)
 
   -- a call behind the format
-  pub run-ended : length b ≡ 0 → ended ≡ true → over s Sound ≡ running s b ended
+  pub run-ended : length b ≡ 0 → ended ≡ true → over s Accepted ≡ running s b ended
   run-ended z e = rw (eq-eqb (length b) 0 z, e)
 
   pub run-waits : length b ≡ 0 → ended ≡ false → waiting s ≡ running s b ended
   run-waits z e = rw (eq-eqb (length b) 0 z, e)
 
   module _ (some : length b ≡ 0 → ⊥) where
-    pub run-many : most ≤ s .entries → over s (Faulty TooLong 0) ≡ running s b ended
-    run-many h = rw (ne-eqb (length b) 0 some, le-leb most (s .entries) h)
+    pub run-many : maxContainers ≤ s .entries → over s (Refused TooLong 0) ≡ running s b ended
+    run-many h = rw (ne-eqb (length b) 0 some, le-leb maxContainers (s .entries) h)
 
-    module _ (few : s .entries < most) where
-      pub run-cut : length b < 256 → ended ≡ true → over s (Faulty BrokenRecord (s .offset)) ≡ running s b ended
-      run-cut h e = rw (ne-eqb (length b) 0 some, lt-leb most (s .entries) few, lt-ltb (length b) 256 h, e)
+    module _ (few : s .entries < maxContainers) where
+      pub run-cut : length b < 256 → ended ≡ true → over s (Refused BrokenRecord (s .offset)) ≡ running s b ended
+      run-cut h e = rw (ne-eqb (length b) 0 some, lt-leb maxContainers (s .entries) few, lt-ltb (length b) 256 h, e)
 
       pub run-short : length b < 256 → ended ≡ false → waiting s ≡ running s b ended
-      run-short h e = rw (ne-eqb (length b) 0 some, lt-leb most (s .entries) few, lt-ltb (length b) 256 h, e)
+      run-short h e = rw (ne-eqb (length b) 0 some, lt-leb maxContainers (s .entries) few, lt-ltb (length b) 256 h, e)
 
       pub run-whole : 256 ≤ length b → containerTurn s (take 256 b) ≡ running s b ended
-      run-whole h = rw (ne-eqb (length b) 0 some, lt-leb most (s .entries) few, le-ltb (length b) 256 h)
+      run-whole h = rw (ne-eqb (length b) 0 some, lt-leb maxContainers (s .entries) few, le-ltb (length b) 256 h)
 
 -- ---- a container
 
@@ -145,12 +145,12 @@ module _ (s : Unpacker) (c : List ℕ) (k : ℕ) (ek : k ≡ 352) (a : Step) (ea
   step : a ≡ reading (s .reader) c 352
   step = ea ∙ ap (reading (s .reader) c) ek
 
-  pub container-refused : (q : Cause) (p : ℕ) → a .answer ≡ Refused q p → over s (Faulty q p) ≡ containerTurn s c
+  pub container-refused : (q : Cause) (p : ℕ) → a .answer ≡ answer.Refused q p → over s (Refused q p) ≡ containerTurn s c
   container-refused q p e =
       ap (turnBy s (reading (s .reader) c 352 .reader) (linesOf (records (s .reader) c))) (sym e ∙ ap (λ (x : Step). x .answer) step)
 
-  module _ (n : ℕ) (g : Grant) (e : a .answer ≡ Done n g) where
-    accepted : reading (s .reader) c 352 .answer ≡ Done n g
+  module _ (n : ℕ) (g : Grant) (e : a .answer ≡ answer.Accepted n g) where
+    accepted : reading (s .reader) c 352 .answer ≡ answer.Accepted n g
     accepted = sym (ap (λ (x : Step). x .answer) step) ∙ e
 
     module _ (before list : List ℕ) (size : length before ≡ 352) (el : list ≡ readRoom (s .reader) c before) where
@@ -159,7 +159,7 @@ module _ (s : Unpacker) (c : List ℕ) (k : ℕ) (ek : k ≡ 352) (a : Step) (ea
       unfolding readRoom
       room =
           el
-          ∙ ap (λ (v : Verdict). whenSound v (put 0 (records (s .reader) c) before) before)
+          ∙ ap (λ (v : Verdict). whenAccepted v (put 0 (records (s .reader) c) before) before)
           (ap (λ (j : ℕ). firstFault (readChecks (s .reader) c j)) size ∙ done (s .reader) c n g accepted .0)
 
       pub records-are : take (n - 0) list ≡ records (s .reader) c
@@ -171,7 +171,7 @@ module _ (s : Unpacker) (c : List ℕ) (k : ℕ) (ek : k ≡ 352) (a : Step) (ea
       pub records-within : n ≤ 352
       records-within = let z = done-few (s .reader) c n g accepted in omega (arith, done-sized (s .reader) c n g accepted)
 
-      pub container-read : (d₀ d : List ℕ) (w : ℕ) → leastRoom ≤ length d₀ → w ≡ linesLength (take (n - 0) list) (length d₀)
+      pub container-read : (d₀ d : List ℕ) (w : ℕ) → minRoom ≤ length d₀ → w ≡ linesLength (take (n - 0) list) (length d₀)
           → d ≡ linesRoom (take (n - 0) list) d₀
           → Made (containerTurn s c) (record { unpacker = stepped s (a .reader); used = 256; written = w; outcome = Next }) d₀ d
       container-read d₀ d w big ew ed =
@@ -195,17 +195,17 @@ module _ (s : Unpacker) (b : List ℕ) (ended : Bool) (d₀ d : List ℕ) (r : U
   abbrev Called : Type 0
   Called = (r ≡ consuming s b ended (length d₀)) × (d ≡ consumedRoom s b ended d₀)
 
-  pub too-small : length d₀ < leastRoom → r ≡ noRoom s → d ≡ d₀ → Called
+  pub too-small : length d₀ < minRoom → r ≡ noRoom s → d ≡ d₀ → Called
   too-small h er ed =
-      let t = lt-ltb (length d₀) leastRoom h in (
+      let t = lt-ltb (length d₀) minRoom h in (
         er ∙ sym (ap (λ (x : Bool). pick x (noRoom s) (answered (turn s b ended))) t),
         ed ∙ sym
             (ap (λ (x : Bool). pick x d₀ (put 0 (turn s b ended .text) d₀)) t),
       )
 
-  pub called : leastRoom ≤ length d₀ → (t : Turn) → turn s b ended ≡ t → Made t r d₀ d → Called
+  pub called : minRoom ≤ length d₀ → (t : Turn) → turn s b ended ≡ t → Made t r d₀ d → Called
   called h t e m =
-      let large = le-ltb (length d₀) leastRoom h in
+      let large = le-ltb (length d₀) minRoom h in
       let k = as-turn t (turn s b ended) r d₀ d (sym e) m in (
         k .0 ∙ sym (ap (λ (x : Bool). pick x (noRoom s) (answered (turn s b ended))) large),
         k .1 ∙ sym

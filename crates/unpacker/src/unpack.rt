@@ -6,32 +6,28 @@ ghost use lib.ListN.{length};
 ghost use Rattle.lists.specs.Parts.{put};
 ghost use Rattle.record.specs.Number.{readNumber};
 ghost use Rattle.text.specs.Lines.{verdictLine};
-ghost use Rattle.unpacker.specs.Unpacking.{most};
-ghost use Rattle.unpacker.specs.Stepping.{leastRoom, over, waiting, beginBy, beginning, containerTurn, running, Running};
+ghost use Rattle.unpacker.specs.Unpacking.{maxContainers};
+ghost use Rattle.unpacker.specs.Stepping.{minRoom, over, waiting, beginBy, beginning, containerTurn, running, Running};
 ghost use Rattle.unpacker.specs.Stepping.{validState, answered, consuming, consumedRoom, freshUnpacker};
 use cause::Cause;
 use cause::Verdict;
+use container::CONTAINER;
 use reader::Answer;
+use reader::ROOM;
 use reader::Reader;
 use record::Number;
 use record::read_number;
 use text::write_messages;
 use text::write_verdict;
 
-// The bytes of a container.
-const CONTAINER: usize = 256;
-
 // The most bytes of a number.
-const MOST_NUMBER: usize = 5;
-
-// The bytes that the records of one container take at most.
-const MOST_RECORDS: usize = 352;
+const MAX_NUMBER: usize = 5;
 
 // The room for the lines of one container: two bytes for each of its records.
-pub const LEAST_ROOM: usize = 704;
+pub const MIN_ROOM: usize = 704;
 
 // As many containers as have an offset in 64 bits.
-const MOST: u64 = 72057594037927935;
+const MAX_CONTAINERS: u64 = 72057594037927935;
 
 // What a call comes to: more bytes are asked for, the next call can go on, or the verdict is there.
 pub enum Outcome {
@@ -61,8 +57,8 @@ impl Unpacker {
     pub fn fresh() -> Unpacker
         ensures { λ r. ⌜ r ≡ freshUnpacker ⌝ }
     {
-        let opened = Reader::fresh(0);
-        let reader = opened.reader;
+        let created = Reader::fresh(0);
+        let reader = created.reader;
         Unpacker {
             reader: reader,
             entries: 0,
@@ -80,7 +76,7 @@ impl Unpacker {
         if offset == 0 {
             return entries == 0;
         }
-        if MOST < entries {
+        if MAX_CONTAINERS < entries {
             return false;
         }
         if offset != 256 * entries + 1 {
@@ -103,7 +99,7 @@ impl Unpacker {
 
     // A call that writes the verdict.
     fn conclude(self, verdict: Verdict, room: &mut [u8]) -> Unpacked
-        requires { ⌜ leastRoom ≤ length (now room) ⌝ }
+        requires { ⌜ minRoom ≤ length (now room) ⌝ }
         ensures call { λ r. ⌜ r ≡ answered (over self verdict) ⌝ }
         ensures room { λ _. ⌜ now (room .exit) ≡ put 0 (verdictLine (self .entries) verdict) (now (room .entry)) ⌝ }
     {
@@ -118,20 +114,20 @@ impl Unpacker {
 
     // Reads the format.
     fn read_format(self, bytes: &[u8], room: &mut [u8]) -> Unpacked
-        requires { ⌜ leastRoom ≤ length (now room) ⌝ }
+        requires { ⌜ minRoom ≤ length (now room) ⌝ }
         ensures call { λ r. ⌜ r ≡ answered (beginBy self (readNumber (now (bytes .entry)))) ⌝ }
         ensures room { λ _. ⌜ now (room .exit) ≡ put 0 (beginBy self (readNumber (now (bytes .entry))) .text) (now (room .entry)) ⌝ }
     {
         let number = read_number(bytes);
         match number {
-            Number::Broken => self.conclude(Verdict::Faulty(Cause::BrokenRecord, 0), room),
+            Number::Broken => self.conclude(Verdict::Refused(Cause::BrokenRecord, 0), room),
             Number::Value { value, used } => {
-                let opened = Reader::fresh(value);
-                let verdict = opened.verdict;
-                if let Verdict::Faulty(_, _) = verdict {
+                let created = Reader::fresh(value);
+                let verdict = created.verdict;
+                if let Verdict::Refused(_, _) = verdict {
                     return self.conclude(verdict, room);
                 }
-                let reader = opened.reader;
+                let reader = created.reader;
                 Unpacked {
                     unpacker: Unpacker {
                         reader: reader,
@@ -148,14 +144,14 @@ impl Unpacker {
 
     // Reads the format once all its bytes are there.
     fn begin(self, bytes: &[u8], ended: bool, room: &mut [u8]) -> Unpacked
-        requires { ⌜ leastRoom ≤ length (now room) ⌝ }
+        requires { ⌜ minRoom ≤ length (now room) ⌝ }
         ensures call { λ r. ⌜ r ≡ answered (beginning self (now (bytes .entry)) ended) ⌝ }
         ensures room { λ _. ⌜ now (room .exit) ≡ put 0 (beginning self (now (bytes .entry)) ended .text) (now (room .entry)) ⌝ }
     {
         if ended {
             return self.read_format(bytes, room);
         }
-        if bytes.len() < MOST_NUMBER {
+        if bytes.len() < MAX_NUMBER {
             return self.wait();
         }
         self.read_format(bytes, room)
@@ -163,18 +159,18 @@ impl Unpacker {
 
     // Reads a container and writes the messages that end in it.
     fn read_container(self, container: &[u8], room: &mut [u8]) -> Unpacked
-        requires { ⌜ Running self × (self .entries < most) × (leastRoom ≤ length (now room)) ⌝ }
+        requires { ⌜ Running self × (self .entries < maxContainers) × (minRoom ≤ length (now room)) ⌝ }
         ensures call { λ r. ⌜ r ≡ answered (containerTurn self (now (container .entry))) ⌝ }
         ensures room { λ _. ⌜ now (room .exit) ≡ put 0 (containerTurn self (now (container .entry)) .text) (now (room .entry)) ⌝ }
     {
         let reader = self.reader;
-        let mut records = [0u8; MOST_RECORDS];
+        let mut records = [0u8; ROOM];
         let step = reader.read(container, &mut records);
         let answer = step.answer;
         match answer {
-            Answer::Refused { cause, place } => self.conclude(Verdict::Faulty(cause, place), room),
-            Answer::Done { length, grant: _ } => {
-                let written = write_messages(&records[0..length], room);
+            Answer::Refused { cause, place } => self.conclude(Verdict::Refused(cause, place), room),
+            Answer::Accepted { written, grant: _ } => {
+                let printed = write_messages(&records[0..written], room);
                 let next = step.reader;
                 Unpacked {
                     unpacker: Unpacker {
@@ -183,7 +179,7 @@ impl Unpacker {
                         offset: self.offset + 256,
                     },
                     used: CONTAINER,
-                    written: written,
+                    written: printed,
                     outcome: Outcome::Next,
                 }
             }
@@ -192,22 +188,22 @@ impl Unpacker {
 
     // Reads the next container once all its bytes are there.
     fn read_next(self, bytes: &[u8], ended: bool, room: &mut [u8]) -> Unpacked
-        requires { ⌜ Running self × (leastRoom ≤ length (now room)) ⌝ }
+        requires { ⌜ Running self × (minRoom ≤ length (now room)) ⌝ }
         ensures call { λ r. ⌜ r ≡ answered (running self (now (bytes .entry)) ended) ⌝ }
         ensures room { λ _. ⌜ now (room .exit) ≡ put 0 (running self (now (bytes .entry)) ended .text) (now (room .entry)) ⌝ }
     {
         if bytes.len() == 0 {
             if ended {
-                return self.conclude(Verdict::Sound, room);
+                return self.conclude(Verdict::Accepted, room);
             }
             return self.wait();
         }
-        if MOST <= self.entries {
-            return self.conclude(Verdict::Faulty(Cause::TooLong, 0), room);
+        if MAX_CONTAINERS <= self.entries {
+            return self.conclude(Verdict::Refused(Cause::TooLong, 0), room);
         }
         if bytes.len() < CONTAINER {
             if ended {
-                return self.conclude(Verdict::Faulty(Cause::BrokenRecord, self.offset), room);
+                return self.conclude(Verdict::Refused(Cause::BrokenRecord, self.offset), room);
             }
             return self.wait();
         }
@@ -220,16 +216,16 @@ impl Unpacker {
         ensures call { λ r. ⌜ r ≡ consuming self (now (bytes .entry)) ended (length (now (room .entry))) ⌝ }
         ensures room { λ _. ⌜ now (room .exit) ≡ consumedRoom self (now (bytes .entry)) ended (now (room .entry)) ⌝ }
     {
-        if room.len() < LEAST_ROOM {
+        if room.len() < MIN_ROOM {
             return Unpacked {
                 unpacker: self,
                 used: 0,
                 written: 0,
-                outcome: Outcome::Over(Verdict::Faulty(Cause::RoomTooSmall, 0)),
+                outcome: Outcome::Over(Verdict::Refused(Cause::RoomTooSmall, 0)),
             };
         }
         if !self.is_valid() {
-            return self.conclude(Verdict::Faulty(Cause::InvalidState, 0), room);
+            return self.conclude(Verdict::Refused(Cause::InvalidState, 0), room);
         }
         if self.offset == 0 {
             return self.begin(bytes, ended, room);

@@ -9,10 +9,10 @@ use lib.Seq.{length-take-le}
 use Rattle.lists.specs.Pick.{pick}
 use Rattle.lists.specs.Parts.{pad}
 use Rattle.slices.proofs.CopyLaws.{copiedInto, copied-zeros}
-use Rattle.cause.specs.Checks.{whenSound}
+use Rattle.cause.specs.Checks.{whenAccepted}
 use Rattle.cause.specs.declared.Cause.{Cause}
 use Rattle.cause.specs.declared.Verdict.{Verdict}
-use Rattle.cause.specs.declared.Verdict.the-variants.{Sound, Faulty}
+use Rattle.cause.specs.declared.Verdict.the-variants.{Accepted, Refused}
 use Rattle.container.specs.Layout.{Format, formatOf}
 use Rattle.container.specs.declared.grant.Grant.{Grant}
 use Rattle.writer.specs.Laying.{headerBytes, setAll, filled, owesAfter, usedOf}
@@ -28,13 +28,13 @@ use Rattle.writer.proofs.HoldLaws.{owed-length, held-filled, held-owes,
 
 -- ---- from an answer to its verdict
 
-pub filling-faulty : (v : Verdict) (n : ℕ) (k : Cause) (p : ℕ) → answerOf v n ≡ answer.Refused k p → v ≡ Faulty k p
-filling-faulty Sound n k p e = let z : _≡_ {A = ℕ} 0 1 = cc in absurd (omega arith)
-filling-faulty (Faulty a b) n k p e = cc
+pub fill-answer-refused : (v : Verdict) (n : ℕ) (k : Cause) (p : ℕ) → answerOf v n ≡ answer.Refused k p → v ≡ Refused k p
+fill-answer-refused Accepted n k p e = let z : _≡_ {A = ℕ} 0 1 = cc in absurd (omega arith)
+fill-answer-refused (Refused a b) n k p e = cc
 
-pub filling-sound : (v : Verdict) (n u : ℕ) → answerOf v n ≡ answer.Filled u → (v ≡ Sound) × (n ≡ u)
-filling-sound Sound n u e = (refl, cc)
-filling-sound (Faulty a b) n u e = let z : _≡_ {A = ℕ} 0 1 = cc in absurd (omega arith)
+pub fill-answer-accepted : (v : Verdict) (n u : ℕ) → answerOf v n ≡ answer.Accepted u → (v ≡ Accepted) × (n ≡ u)
+fill-answer-accepted Accepted n u e = (refl, cc)
+fill-answer-accepted (Refused a b) n u e = let z : _≡_ {A = ℕ} 0 1 = cc in absurd (omega arith)
 
 -- ---- what is owed, by where it lies
 
@@ -74,11 +74,11 @@ tail-part w = let z : w .len - 0 ≡ w .len = omega arith in rw z
 
 -- ---- a refused fill
 
-module _ (w : Writer) (l : List ℕ) (n : Grant) (c : List ℕ) (k : Cause) (q : ℕ) (e : fillFault w l n (length c) ≡ Faulty k q) where
+module _ (w : Writer) (l : List ℕ) (n : Grant) (c : List ℕ) (k : Cause) (q : ℕ) (e : fillFault w l n (length c) ≡ Refused k q) where
   pub fill-refused : _≡_ {A = Step} (record { writer = w; answer = answer.Refused k q }) (filling w l n (length c))
   unfolding filling
   fill-refused = λ i. record {
-    writer = whenSound (sym e i) (writerWith (w .format) (owesAfter (formatOf (w .format)) n (tailOf w) l)) w;
+    writer = whenAccepted (sym e i) (writerWith (w .format) (owesAfter (formatOf (w .format)) n (tailOf w) l)) w;
     answer = answerOf (sym e i) (usedOf (formatOf (w .format)) n (tailOf w) l);
   }
 
@@ -88,7 +88,7 @@ module _ (w : Writer) (l : List ℕ) (n : Grant) (c : List ℕ) (k : Cause) (q :
 
 -- ---- an accepted fill
 
-module _ (w : Writer) (l : List ℕ) (n : Grant) (c : List ℕ) (long : length (w .tail) ≡ 100) (e : fillFault w l n (length c) ≡ Sound) where
+module _ (w : Writer) (l : List ℕ) (n : Grant) (c : List ℕ) (long : length (w .tail) ≡ 100) (e : fillFault w l n (length c) ≡ Accepted) where
   abbrev fm : Format
   fm = formatOf (w .format)
 
@@ -111,7 +111,7 @@ module _ (w : Writer) (l : List ℕ) (n : Grant) (c : List ℕ) (long : length (
     sane : Sane t l 12 p
     sane = rw ep (sane-at (w .format) n t l (fill-asks .1 .0) (fill-asks .1 .1) (can .short) 12 (omega arith))
 
-    pub starts-low : p .starts < 4096
+    pub starts-low : p .msgstart < 4096
     starts-low = let h = sane .starts-low in omega arith
 
     pub left-low : p .left ≤ 100
@@ -127,20 +127,20 @@ module _ (w : Writer) (l : List ℕ) (n : Grant) (c : List ℕ) (long : length (
     owes = ap (owedOf t l) ep ∙ sym (held-owes (w .format) n t l (fill-asks .1 .0) (fill-asks .1 .1) (can .short)) ∙ ap (λ (x : List ℕ). owesAfter fm n x l) (tail-part w)
 
     pub fill-done : (a : List ℕ) → a ≡ pad 100 (owedOf t l p)
-        → _≡_ {A = Step} (record { writer = record { format = w .format; tail = a; len = p .left }; answer = answer.Filled (p .at) }) (filling w l n (length c))
+        → _≡_ {A = Step} (record { writer = record { format = w .format; tail = a; len = p .left }; answer = answer.Accepted (p .at) }) (filling w l n (length c))
     unfolding filling
     fill-done a ea =
         let at : a ≡ pad 100 (owesAfter fm n (tailOf w) l) = ea ∙ ap (pad 100) owes in
         let len : p .left ≡ length (owesAfter fm n (tailOf w) l) = sym (owed-length t l 12 p sane) ∙ ap length owes in
         let used : p .at ≡ usedOf fm n (tailOf w) l =
         ap (λ (x : Cursor). x .at) ep ∙ sym (held-used (w .format) n t l (fill-asks .1 .0) (fill-asks .1 .1) (can .short)) ∙ ap (λ (x : List ℕ). usedOf fm n x l) (tail-part w) in
-        (λ i. record { writer = record { format = w .format; tail = at i; len = len i }; answer = answer.Filled (used i) })
-        ∙ (λ i. record { writer = whenSound (sym e i) (writerWith (w .format) (owesAfter fm n (tailOf w) l)) w; answer = answerOf (sym e i) (usedOf fm n (tailOf w) l) })
+        (λ i. record { writer = record { format = w .format; tail = at i; len = len i }; answer = answer.Accepted (used i) })
+        ∙ (λ i. record { writer = whenAccepted (sym e i) (writerWith (w .format) (owesAfter fm n (tailOf w) l)) w; answer = answerOf (sym e i) (usedOf fm n (tailOf w) l) })
 
-    pub bytes-done : (d x : List ℕ) → x ≡ laidTo fm n t l 12 → d ≡ setAll (fm .place) 0 (headerBytes n (p .starts)) x → d ≡ fillBytes w l n c
+    pub bytes-done : (d x : List ℕ) → x ≡ laidTo fm n t l 12 → d ≡ setAll (fm .place) 0 (headerBytes n (p .msgstart)) x → d ≡ fillBytes w l n c
     unfolding fillBytes
     bytes-done d x ex ed =
-        ed ∙ ap (setAll (fm .place) 0 (headerBytes n (p .starts))) ex
-        ∙ ap (λ (y : Cursor). setAll (fm .place) 0 (headerBytes n (y .starts)) (laidTo fm n t l 12)) ep
+        ed ∙ ap (setAll (fm .place) 0 (headerBytes n (p .msgstart))) ex
+        ∙ ap (λ (y : Cursor). setAll (fm .place) 0 (headerBytes n (y .msgstart)) (laidTo fm n t l 12)) ep
         ∙ sym (held-filled (w .format) n t l (fill-asks .1 .0) (fill-asks .1 .1) (can .short))
         ∙ ap (λ (y : List ℕ). filled fm n y l) (tail-part w) ∙ rw e

@@ -17,7 +17,7 @@ use Rattle.cause.proofs.CheckLaws.{first-append}
 use Rattle.cause.specs.declared.Cause.{Cause}
 use Rattle.cause.specs.declared.Cause.the-variants.{BrokenRecord}
 use Rattle.cause.specs.declared.Verdict.{Verdict}
-use Rattle.cause.specs.declared.Verdict.the-variants.{Sound, Faulty}
+use Rattle.cause.specs.declared.Verdict.the-variants.{Accepted, Refused}
 use Rattle.container.specs.Layout.{formatOf}
 use Rattle.container.specs.Grants.{planeAllowed}
 use Rattle.container.specs.declared.grant.Grant.{Grant}
@@ -33,7 +33,7 @@ use Rattle.writer.specs.Laying.{usedOf}
 use Rattle.writer.specs.Filling.{tailOf, callChecks, fillFault, answerOf, filling}
 use Rattle.writer.specs.declared.writer.Writer.{Writer}
 use Rattle.writer.specs.declared.writer.Answer.the-variants as answer
-use Rattle.writer.proofs.AnswerLaws.{filling-faulty, filling-sound}
+use Rattle.writer.proofs.AnswerLaws.{fill-answer-refused, fill-answer-accepted}
 use Rattle.cause.proofs.NamedLaws.{turnOf}
 use Rattle.writer.proofs.FillCells.{ListCells, FillCells, long, broken}
 use Rattle.cause.proofs.FirstLaws.{Fails, Rises, rises-from, Sounds, First, None, Lists, listed-first, listed-none}
@@ -76,8 +76,8 @@ some-bad (b ∷ l) e = omega arith
 
 -- behind records of messages, what is broken is found
 found-broken : (ms : List (List ℕ)) (l : List ℕ) (at : ℕ) (rest : List ℕ) → AllMessages ms → drop at l ≡ recordsOf ms ++ rest → firstOf rest ≡ Bad
-    → faultFrom (suc (length l - at)) l at ≡ Faulty BrokenRecord (at + length (recordsOf ms))
-found-broken [] l at rest a e b = fault-bad l at (ap firstOf e ∙ b) ∙ ap (Faulty BrokenRecord) (omega arith)
+    → faultFrom (suc (length l - at)) l at ≡ Refused BrokenRecord (at + length (recordsOf ms))
+found-broken [] l at rest a e b = fault-bad l at (ap firstOf e ∙ b) ∙ ap (Refused BrokenRecord) (omega arith)
 found-broken (m ∷ ms) l at rest a e b =
     let u : ℕ = length (number (length m)) in
     let f : drop at l ≡ recordOf m ++ (recordsOf ms ++ rest) = e ∙ append-assoc (recordOf m) (recordsOf ms) rest in
@@ -86,21 +86,21 @@ found-broken (m ∷ ms) l at rest a e b =
     sym (drop-drop (u + length m) at l) ∙ ap (drop (u + length m)) f
     ∙ drop-at (recordOf m) (recordsOf ms ++ rest) (u + length m) (length-append (number (length m)) m) in
     let n : length (recordOf m ++ recordsOf ms) ≡ (u + length m) + length (recordsOf ms) = length-append (recordOf m) (recordsOf ms) ∙ ap (λ (x : ℕ). x + length (recordsOf ms)) (length-append (number (length m)) m) in
-    fault-next l at u (u + length m) first ∙ found-broken ms l (at + (u + length m)) rest (a .1) behind b ∙ ap (Faulty BrokenRecord) (omega arith)
+    fault-next l at u (u + length m) first ∙ found-broken ms l (at + (u + length m)) rest (a .1) behind b ∙ ap (Refused BrokenRecord) (omega arith)
 
 -- a verdict as a list of checks
 abbrev only : Verdict → List Check
-only Sound = []
-only (Faulty k p) = check false k p ∷ []
+only Accepted = []
+only (Refused k p) = check false k p ∷ []
 
 only-first : (v : Verdict) → firstFault (only v) ≡ v
-only-first Sound = refl
-only-first (Faulty k p) = refl
+only-first Accepted = refl
+only-first (Refused k p) = refl
 
 -- ---- the check of a list
 module _ (l : List ℕ) (h : IsBytes l) where
   -- what it finds is a broken record
-  broken-fault : (k : Cause) (p : ℕ) → listFault l ≡ Faulty k p → (k ≡ BrokenRecord) × ListCells l BrokenRecord p
+  broken-fault : (k : Cause) (p : ℕ) → listFault l ≡ Refused k p → (k ≡ BrokenRecord) × ListCells l BrokenRecord p
   broken-fault k p e =
       let b = list-broken l k p h e in
       let r = b .1 in
@@ -115,29 +115,29 @@ module _ (l : List ℕ) (h : IsBytes l) where
       short g = let lt = length-take p l in omega arith
 
   fault-broken : (ms : List (List ℕ)) (rest : List ℕ) → AllMessages ms → l ≡ recordsOf ms ++ rest → 0 < length rest
-      → ((m more : List ℕ) → isMessage m ≡ true → rest ≡ recordOf m ++ more → ⊥) → listFault l ≡ Faulty BrokenRecord (length (recordsOf ms))
+      → ((m more : List ℕ) → isMessage m ≡ true → rest ≡ recordOf m ++ more → ⊥) → listFault l ≡ Refused BrokenRecord (length (recordsOf ms))
   fault-broken ms rest a e some never =
-      fault-start l ∙ found-broken ms l 0 rest a e (bad-first rest bytes some never) ∙ ap (Faulty BrokenRecord) (omega arith)
+      fault-start l ∙ found-broken ms l 0 rest a e (bad-first rest bytes some never) ∙ ap (Refused BrokenRecord) (omega arith)
     where
       bytes : IsBytes rest
       bytes = subst IsBytes (ap (drop (length (recordsOf ms))) e ∙ drop-append-seam (recordsOf ms) rest) (bytes-drop l (length (recordsOf ms)) h)
 
   list-sounds : (R : ℕ → Cause → ℕ → Type 0) → ((k : Cause) (p : ℕ) → ListCells l k p → R (turnOf k p) k p) → (v : Verdict) → listFault l ≡ v → Sounds R (ranked (only v))
-  list-sounds R has Sound e = tt
-  list-sounds R has (Faulty k p) e = (λ t. let b = broken-fault k p e in has k p (subst (λ (x : Cause). ListCells l x p) (sym (b .0)) (b .1)), tt)
+  list-sounds R has Accepted e = tt
+  list-sounds R has (Refused k p) e = (λ t. let b = broken-fault k p e in has k p (subst (λ (x : Cause). ListCells l x p) (sym (b .0)) (b .1)), tt)
 
   abbrev last : Verdict → ℕ
-  last Sound = 800
-  last (Faulty k p) = suc (turnOf k p)
+  last Accepted = 800
+  last (Refused k p) = suc (turnOf k p)
 
   list-rises : (v : Verdict) → listFault l ≡ v → Rises 800 (ranked (only v)) (last v)
-  list-rises Sound e = omega arith
-  list-rises (Faulty k p) e = let b = broken-fault k p e .0 in let r : turnOf k p ≡ 800 + p = ap (λ (x : Cause). turnOf x p) b in (omega arith, omega arith)
+  list-rises Accepted e = omega arith
+  list-rises (Refused k p) e = let b = broken-fault k p e .0 in let r : turnOf k p ≡ 800 + p = ap (λ (x : Cause). turnOf x p) b in (omega arith, omega arith)
 
   list-complete : (k : Cause) (p : ℕ) → ListCells l k p → Fails (turnOf k p) k p (ranked (only (listFault l)))
   list-complete k p (broken ms rest a e some never) = fails (listFault l) (length (recordsOf ms)) (fault-broken ms rest a e some never)
     where
-      fails : (v : Verdict) (p : ℕ) → v ≡ Faulty BrokenRecord p → Fails (turnOf BrokenRecord p) BrokenRecord p (ranked (only v))
+      fails : (v : Verdict) (p : ℕ) → v ≡ Refused BrokenRecord p → Fails (turnOf BrokenRecord p) BrokenRecord p (ranked (only v))
       fails v p e = subst (λ (x : Verdict). Fails (turnOf BrokenRecord p) BrokenRecord p (ranked (only x))) (sym e) (inl (refl, refl))
 
   list-lists : Lists (Ranked (ListCells l)) (only (listFault l))
@@ -154,12 +154,12 @@ module _ (l : List ℕ) (h : IsBytes l) where
   found-as v = (λ e. only-first (listFault l) ∙ e, λ e. sym (only-first (listFault l)) ∙ e)
 
   -- the check of a list finds a cause and a place exactly where it is the first fault
-  pub list-first : (k : Cause) (p : ℕ) → (listFault l ≡ Faulty k p) ↔ First (Ranked (ListCells l)) k p
-  list-first k p = chain (found-as (Faulty k p)) (listed-first list-lists k p)
+  pub list-first : (k : Cause) (p : ℕ) → (listFault l ≡ Refused k p) ↔ First (Ranked (ListCells l)) k p
+  list-first k p = chain (found-as (Refused k p)) (listed-first list-lists k p)
 
   -- and nothing exactly where there is none
-  pub list-none : (listFault l ≡ Sound) ↔ None (Ranked (ListCells l))
-  list-none = chain (found-as Sound) (listed-none list-lists)
+  pub list-none : (listFault l ≡ Accepted) ↔ None (Ranked (ListCells l))
+  list-none = chain (found-as Accepted) (listed-none list-lists)
 
 -- ---- a fill
 module _ (w : Writer) (l : List ℕ) (n : Grant) (size : ℕ) (h : IsBytes l) where
@@ -205,11 +205,11 @@ module _ (w : Writer) (l : List ℕ) (n : Grant) (size : ℕ) (h : IsBytes l) wh
     complete = λ r k p f. subst (λ (t : ℕ). Fails t k p (ranked (calls ++ only (listFault l)))) (f .0) (fill-complete k p (f .1));
   }
 
-  refused-as : (v : Verdict) (a : ℕ) (k : Cause) (p : ℕ) → (answerOf v a ≡ answer.Refused k p) ↔ (v ≡ Faulty k p)
-  refused-as v a k p = (filling-faulty v a k p, λ e. rw e)
+  refused-as : (v : Verdict) (a : ℕ) (k : Cause) (p : ℕ) → (answerOf v a ≡ answer.Refused k p) ↔ (v ≡ Refused k p)
+  refused-as v a k p = (fill-answer-refused v a k p, λ e. rw e)
 
-  filled-as : (v : Verdict) (a : ℕ) → (answerOf v a ≡ answer.Filled a) ↔ (v ≡ Sound)
-  filled-as v a = (λ e. filling-sound v a a e .0, λ e. rw e)
+  filled-as : (v : Verdict) (a : ℕ) → (answerOf v a ≡ answer.Accepted a) ↔ (v ≡ Accepted)
+  filled-as v a = (λ e. fill-answer-accepted v a a e .0, λ e. rw e)
 
   by-checks : (v : Verdict) → (fillFault w l n size ≡ v) ↔ (firstFault (calls ++ only (listFault l)) ≡ v)
   by-checks v = (λ e. sym fill-checks ∙ e, λ e. fill-checks ∙ e)
@@ -219,11 +219,11 @@ module _ (w : Writer) (l : List ℕ) (n : Grant) (size : ℕ) (h : IsBytes l) wh
   unfolding filling
   fill-first k p =
       chain (refused-as (fillFault w l n size) (usedOf (formatOf (w .format)) n (tailOf w) l) k p)
-      (chain (by-checks (Faulty k p)) (listed-first fill-lists k p))
+      (chain (by-checks (Refused k p)) (listed-first fill-lists k p))
 
   -- and fills exactly where there is none
-  pub fill-none : (filling w l n size .answer ≡ answer.Filled (usedOf (formatOf (w .format)) n (tailOf w) l)) ↔ None (Ranked Of)
+  pub fill-none : (filling w l n size .answer ≡ answer.Accepted (usedOf (formatOf (w .format)) n (tailOf w) l)) ↔ None (Ranked Of)
   unfolding filling
   fill-none =
       chain (filled-as (fillFault w l n size) (usedOf (formatOf (w .format)) n (tailOf w) l))
-      (chain (by-checks Sound) (listed-none fill-lists))
+      (chain (by-checks Accepted) (listed-none fill-lists))

@@ -8,7 +8,7 @@ use Rattle.lists.proofs.Tests.{never-both, not-true-false}
 use Rattle.cause.specs.Causes.{causeNumber}
 use Rattle.cause.specs.declared.Cause.{Cause}
 use Rattle.cause.specs.declared.Cause.the-variants.{ContainerLength, HeaderGrantForm, BrokenRecord, TooLong, InvalidState}
-use Rattle.cause.specs.declared.Verdict.the-variants.{Sound, Faulty}
+use Rattle.cause.specs.declared.Verdict.the-variants.{Accepted, Refused}
 use Rattle.container.specs.Layout.{formatOf}
 use Rattle.container.specs.declared.grant.Grant.{Grant}
 use Rattle.message.proofs.HeadRuleLaws.{message-exactly}
@@ -54,10 +54,10 @@ module _ (l : List ℕ) where
   row-list j q (ListFault.broken ms rest a e some never) =
       (BrokenRecord, refl, ListCells.broken ms rest (by-test ms a) e some (λ m more h. never m more (message-exactly m .0 h)))
 
-  pub list-refused : IsBytes l → (k : Cause) (p : ℕ) → (listFault l ≡ Faulty k p) ↔ Named (ListFault l) k p
+  pub list-refused : IsBytes l → (k : Cause) (p : ℕ) → (listFault l ≡ Refused k p) ↔ Named (ListFault l) k p
   list-refused h k p = chain (list-first l h k p) (first-named (alike (ListCells l) (ListFault l) list-row row-list) k p)
 
-  pub list-accepted : IsBytes l → (listFault l ≡ Sound) ↔ None (ListFault l)
+  pub list-accepted : IsBytes l → (listFault l ≡ Accepted) ↔ None (ListFault l)
   list-accepted h = chain (list-none l h) (none-named (alike (ListCells l) (ListFault l) list-row row-list))
 
 -- ---- a fill
@@ -82,5 +82,5 @@ module _ (w : Writer) (l : List ℕ) (n : Grant) (bytes : ℕ) where
   pub fill-refused : IsBytes l → (k : Cause) (p : ℕ) → (filling w l n bytes .answer ≡ answer.Refused k p) ↔ Named (FillFault w l n bytes) k p
   fill-refused h k p = chain (fill-first w l n bytes h k p) (first-named both k p)
 
-  pub fill-accepted : IsBytes l → (filling w l n bytes .answer ≡ answer.Filled (usedOf (formatOf (w .format)) n (tailOf w) l)) ↔ None (FillFault w l n bytes)
+  pub fill-accepted : IsBytes l → (filling w l n bytes .answer ≡ answer.Accepted (usedOf (formatOf (w .format)) n (tailOf w) l)) ↔ None (FillFault w l n bytes)
   fill-accepted h = chain (fill-none w l n bytes h) (none-named both)

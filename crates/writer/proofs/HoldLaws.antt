@@ -89,7 +89,7 @@ pub record Matches (t l : List ℕ) (p : Cursor) (w : planned.Cursor) : Type 0 w
 pub record Steps (fm : Format) (t l : List ℕ) (g : ℕ) (p : Cursor) (w : planned.Cursor) (p′ : Cursor) (b : List ℕ) (v : Given) : Type 0 where
   pub next : Matches t l p′ (cursorAfter g w v)
   pub bytes : pad (fm .size g) b ≡ v .cell .bytes
-  pub starts : p′ .starts ≡ p .starts + pick (v .cell .starts) (2 ^ g) 0
+  pub starts : p′ .msgstart ≡ p .msgstart + pick (v .cell .starts) (2 ^ g) 0
 
 -- two choices by the same test
 pick-same : {A B C : Type 0} (P : A → B → C → Type 0) (c d : Bool) {a a′ : A} {b b′ : B} {v v′ : C} → c ≡ d → (c ≡ true → P a b v) → (c ≡ false → P a′ b′ v′)
@@ -196,7 +196,7 @@ pub record Held (f : ℕ) (n : Grant) (t l : List ℕ) (g : ℕ) : Type 0 where
   pub left : length (cursorLast (formatOf f) n l g 0 (cursorOf t) .owes) ≡ cursorAt (formatOf f) n t l g .left
   pub at : cursorAt (formatOf f) n t l g .at ≡ cursorLast (formatOf f) n l g 0 (cursorOf t) .at
   pub group : cursorAt (formatOf f) n t l g .group ≡ groupOf (cursorLast (formatOf f) n l g 0 (cursorOf t) .group)
-  pub starts : cursorAt (formatOf f) n t l g .starts ≡ startBits (plan (formatOf f) n l g 0 (cursorOf t))
+  pub starts : cursorAt (formatOf f) n t l g .msgstart ≡ startBits (plan (formatOf f) n l g 0 (cursorOf t))
   pub laid : laidTo (formatOf f) n t l g ≡ layCells 0 (plan (formatOf f) n l g 0 (cursorOf t)) (replicate 256 0)
 
 -- one granule more
@@ -231,7 +231,7 @@ module _ (f : ℕ) (n : Grant) (t l : List ℕ) (short : length t ≤ 100) (whol
       held-next f n t l g b (sane-at f n t l short whole fits g (omega arith)) (sane-at f n t l short whole fits (suc g) b) (held g (omega arith))
 
   -- the container, what is owed, and the bytes of the list used, behind all granules
-  pub held-filled : filled (formatOf f) n t l ≡ setAll (formatOf f .place) 0 (headerBytes n (cursorAt (formatOf f) n t l 12 .starts)) (laidTo (formatOf f) n t l 12)
+  pub held-filled : filled (formatOf f) n t l ≡ setAll (formatOf f .place) 0 (headerBytes n (cursorAt (formatOf f) n t l 12 .msgstart)) (laidTo (formatOf f) n t l 12)
   unfolding filled containerOf
   held-filled = let h = held 12 (omega arith) in rw (h .starts, h .laid)
 

@@ -116,7 +116,7 @@ legal-starts fm n g e t o h =
 module _ (f : ℕ) (n : Grant) (t l : List ℕ) (short : length t ≤ 100) (fits : length l ≤ 4096) (g : ℕ) (b : g < 12) (p : Cursor) (h : Sane t l g p) where
   -- what is owed stays owed
   sane-kept : (at starts : ℕ) (e : Group) → at ≤ length l → starts < 2 ^ suc g → (e .miscs ≤ 2) × (e .responses ≤ 4)
-      → Sane t l (suc g) (record { tail = p .tail; from = p .from; left = p .left; at = at; starts = starts; group = e })
+      → Sane t l (suc g) (record { tail = p .tail; from = p .from; left = p .left; at = at; msgstart = starts; group = e })
   sane-kept at starts e used low few = record {
     within = h .within;
     granules = h .granules;
@@ -131,7 +131,7 @@ module _ (f : ℕ) (n : Grant) (t l : List ℕ) (short : length t ≤ 100) (fits
   sane-empty =
       let few = h .few in
       let low = h .starts-low in
-      sane-kept (p .at) (p .starts) (groupNext g (p .group) false 0 0) (h .used) (rw (pow-suc 2 g) (omega arith)) (group-few g (p .group) false 0 0 (omega arith) (omega arith))
+      sane-kept (p .at) (p .msgstart) (groupNext g (p .group) false 0 0) (h .used) (rw (pow-suc 2 g) (omega arith)) (group-few g (p .group) false 0 0 (omega arith) (omega arith))
 
   source-length : length (pick (p .tail) t l) ≤ 4096
   source-length = pick-by (λ (s : List ℕ). length s ≤ 4096) (p .tail) (λ _. omega arith) (λ _. fits)
@@ -185,7 +185,7 @@ module _ (f : ℕ) (n : Grant) (t l : List ℕ) (short : length t ≤ 100) (fits
     sane-used ok =
         let few = legal-starts (formatOf f) n g (p .group) (typeOf found) (opOf found) ok .few in
         let low = h .starts-low in
-        sane-kept (p .at + e) (p .starts + 2 ^ g) (groupNext g (p .group) true (miscsBy (typeOf found)) (responsesBy (typeOf found))) (r .inside)
+        sane-kept (p .at + e) (p .msgstart + 2 ^ g) (groupNext g (p .group) true (miscsBy (typeOf found)) (responsesBy (typeOf found))) (r .inside)
         (rw (pow-suc 2 g) (omega arith)) (group-few g (p .group) true (miscsBy (typeOf found)) (responsesBy (typeOf found)) (omega arith) (omega arith))
 
     sane-taken : mayBy (formatOf f) n g p (typeOf found) (opOf found) ≡ true → Sane t l (suc g) (cursorTaken (formatOf f .size g) g p s e (typeOf found))

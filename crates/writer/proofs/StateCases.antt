@@ -13,8 +13,8 @@ use Rattle.cause.specs.Checks.{firstFault}
 use Rattle.cause.specs.declared.Cause.{Cause}
 use Rattle.cause.specs.declared.Cause.the-variants.{ContainerLength, HeaderGrantForm, TooLong, InvalidState}
 use Rattle.cause.specs.declared.Verdict.{Verdict}
-use Rattle.cause.specs.declared.Verdict.the-variants.{Sound, Faulty}
-use Rattle.cause.proofs.CheckLaws.{sound-pass, both-sound}
+use Rattle.cause.specs.declared.Verdict.the-variants.{Accepted, Refused}
+use Rattle.cause.proofs.CheckLaws.{accepted-pass, both-accepted}
 use Rattle.container.specs.Grants.{planeAllowed}
 use Rattle.container.specs.declared.grant.Grant.{Grant}
 use Rattle.record.specs.Records.{listFault}
@@ -56,36 +56,36 @@ writer-ok w e =
 
 -- the checks of a call
 module _ (w : Writer) (k : ℕ) (n : Grant) (size : ℕ) where
-  pub call-invalid : writerOk w ≡ false → Faulty InvalidState 0 ≡ firstFault (callChecks w k n size)
+  pub call-invalid : writerOk w ≡ false → Refused InvalidState 0 ≡ firstFault (callChecks w k n size)
   unfolding callChecks
   call-invalid e = rw e
 
   module _ (e : writerOk w ≡ true) where
-    pub call-length : (size ≡ 256 → ⊥) → Faulty ContainerLength 0 ≡ firstFault (callChecks w k n size)
+    pub call-length : (size ≡ 256 → ⊥) → Refused ContainerLength 0 ≡ firstFault (callChecks w k n size)
     unfolding callChecks
     call-length d = rw (e, ne-eqb size 256 d)
 
     module _ (s : size ≡ 256) where
-      pub call-long : 4096 < k → Faulty TooLong 0 ≡ firstFault (callChecks w k n size)
+      pub call-long : 4096 < k → Refused TooLong 0 ≡ firstFault (callChecks w k n size)
       unfolding callChecks
       call-long h = rw (e, eq-eqb size 256 s, lt-leb k 4096 h)
 
       module _ (h : k ≤ 4096) where
-        pub call-grant : (ltb (n .rp) 8 && planeAllowed n) ≡ false → Faulty HeaderGrantForm 0 ≡ firstFault (callChecks w k n size)
+        pub call-grant : (ltb (n .rp) 8 && planeAllowed n) ≡ false → Refused HeaderGrantForm 0 ≡ firstFault (callChecks w k n size)
         unfolding callChecks
         call-grant g = rw (e, eq-eqb size 256 s, le-leb k 4096 h, g)
 
-        pub call-sound : (ltb (n .rp) 8 && planeAllowed n) ≡ true → Sound ≡ firstFault (callChecks w k n size)
+        pub call-accepted : (ltb (n .rp) 8 && planeAllowed n) ≡ true → Accepted ≡ firstFault (callChecks w k n size)
         unfolding callChecks
-        call-sound g = rw (e, eq-eqb size 256 s, le-leb k 4096 h, g)
+        call-accepted g = rw (e, eq-eqb size 256 s, le-leb k 4096 h, g)
 
 -- the list behind the call
 module _ (w : Writer) (l : List ℕ) (n : Grant) (size : ℕ) (v : Verdict) (ev : v ≡ firstFault (callChecks w (length l) n size)) where
-  pub fill-faulty : (k : Cause) (p : ℕ) → v ≡ Faulty k p → v ≡ fillFault w l n size
+  pub fill-checks-refused : (k : Cause) (p : ℕ) → v ≡ Refused k p → v ≡ fillFault w l n size
   unfolding fillFault
-  fill-faulty k p e = e ∙ rw (← ev, e)
+  fill-checks-refused k p e = e ∙ rw (← ev, e)
 
-  pub fill-list : v ≡ Sound → (x : Verdict) → x ≡ listFault l → x ≡ fillFault w l n size
+  pub fill-list : v ≡ Accepted → (x : Verdict) → x ≡ listFault l → x ≡ fillFault w l n size
   unfolding fillFault
   fill-list e x ex = ex ∙ rw (← ev, e)
 
@@ -96,10 +96,10 @@ pub record Callable (w : Writer) (l : List ℕ) (n : Grant) (size : ℕ) : Type 
   pub short : length l ≤ 4096
   pub plane : n .rp < 8
 
-pub fill-callable : (w : Writer) (l : List ℕ) (n : Grant) (size : ℕ) → fillFault w l n size ≡ Sound → Callable w l n size
+pub fill-callable : (w : Writer) (l : List ℕ) (n : Grant) (size : ℕ) → fillFault w l n size ≡ Accepted → Callable w l n size
 unfolding fillFault callChecks
 fill-callable w l n size e =
-    let p = sound-pass (callChecks w (length l) n size) (both-sound (firstFault (callChecks w (length l) n size)) (listFault l) e .0) in
+    let p = accepted-pass (callChecks w (length l) n size) (both-accepted (firstFault (callChecks w (length l) n size)) (listFault l) e .0) in
     record {
       valid = writer-ok w (p .0);
       whole = eqb-true size 256 (p .1 .0);

@@ -52,7 +52,7 @@ pub record Sane (t l : List ℕ) (g : ℕ) (p : Cursor) : Type 0 where
   pub most : p .left ≤ 100
   pub start-low : p .from ≤ 4300
   pub used : p .at ≤ length l
-  pub starts-low : p .starts < 2 ^ g
+  pub starts-low : p .msgstart < 2 ^ g
   pub few : (p .group .miscs ≤ 2) × (p .group .responses ≤ 4)
 
 -- granule g stays empty
@@ -62,7 +62,7 @@ cursorEmpty g p = record {
   from = p .from;
   left = p .left;
   at = p .at;
-  starts = p .starts;
+  msgstart = p .msgstart;
   group = groupNext g (p .group) false 0 0;
 }
 
@@ -73,7 +73,7 @@ cursorOn g p = record {
   from = p .from + 20;
   left = p .left - 20;
   at = p .at;
-  starts = p .starts;
+  msgstart = p .msgstart;
   group = groupNext g (p .group) true 0 0;
 }
 
@@ -84,7 +84,7 @@ cursorUsed g p e t = record {
   from = p .from;
   left = p .left;
   at = p .at + e;
-  starts = p .starts + 2 ^ g;
+  msgstart = p .msgstart + 2 ^ g;
   group = groupNext g (p .group) true (miscsBy t) (responsesBy t);
 }
 
@@ -95,7 +95,7 @@ cursorStart n g p s e t = record {
   from = p .at + (s + n);
   left = (e - s) - n;
   at = p .at + e;
-  starts = p .starts + 2 ^ g;
+  msgstart = p .msgstart + 2 ^ g;
   group = groupNext g (p .group) true (miscsBy t) (responsesBy t);
 }
 
@@ -135,7 +135,7 @@ bytesNext fm n t l g p =
 
 -- the cursor at the start of a container whose tail is t
 abbrev pub cursorStarting : List ℕ → Cursor
-cursorStarting t = record { tail = true; from = 0; left = length t; at = 0; starts = 0; group = noGroup }
+cursorStarting t = record { tail = true; from = 0; left = length t; at = 0; msgstart = 0; group = noGroup }
 
 -- the cursor when granule g is reached
 unfoldable pub cursorAt : Format → Grant → List ℕ → List ℕ → ℕ → Cursor

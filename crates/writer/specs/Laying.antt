@@ -4,7 +4,7 @@ use mathlib.Core.List.{List, [], _∷_}
 use lib.ListN.{set, replicate}
 use Rattle.lists.specs.Pick.{pick}
 use Rattle.lists.specs.Parts.{put}
-use Rattle.container.specs.Layout.{Format, start}
+use Rattle.container.specs.Layout.{Format, start, containerSize, granules}
 use Rattle.container.specs.declared.grant.Grant.{Grant}
 use Rattle.placement.specs.Cells.{Cell}
 use Rattle.writer.specs.Plan.{plan, cursorLast, cursorOf}
@@ -34,15 +34,15 @@ layCells g (e ∷ es) c = layCells (g + 1) es (put (start g) (e .bytes) c)
 
 -- the container of twelve cells under a grant; the link header is zero
 unfoldable pub containerOf : Format → Grant → List Cell → List ℕ
-containerOf fm n es = setAll (fm .place) 0 (headerBytes n (startBits es)) (layCells 0 es (replicate 256 0))
+containerOf fm n es = setAll (fm .place) 0 (headerBytes n (startBits es)) (layCells 0 es (replicate containerSize 0))
 
 -- the container that a writer owing t fills from the list l
 unfoldable pub filled : Format → Grant → List ℕ → List ℕ → List ℕ
-filled fm n t l = containerOf fm n (plan fm n l 12 0 (cursorOf t))
+filled fm n t l = containerOf fm n (plan fm n l granules 0 (cursorOf t))
 
 -- what it owes, and how many bytes of the list it has used, behind that container
 unfoldable pub owesAfter : Format → Grant → List ℕ → List ℕ → List ℕ
-owesAfter fm n t l = cursorLast fm n l 12 0 (cursorOf t) .owes
+owesAfter fm n t l = cursorLast fm n l granules 0 (cursorOf t) .owes
 
 unfoldable pub usedOf : Format → Grant → List ℕ → List ℕ → ℕ
-usedOf fm n t l = cursorLast fm n l 12 0 (cursorOf t) .at
+usedOf fm n t l = cursorLast fm n l granules 0 (cursorOf t) .at

@@ -13,7 +13,9 @@ ghost use Rattle.record.specs.declared.list.First.the-variants.{Whole};
 ghost use Rattle.writer.specs.HoldingMirror.{Sane, noGroup, mayBy, cursorEmpty, cursorOn, cursorUsed, cursorTaken, cursorFirst, bytesFirst, cursorNext, bytesNext, cursorAt, laidTo, owedOf};
 use crate::fill::fill_granule;
 use crate::group::Group;
+use container::GRANULES;
 use container::Grant;
+use container::WIDE;
 use container::measure_granule;
 use message::count_miscs;
 use message::count_responses;
@@ -22,14 +24,14 @@ use record::read_record;
 use slices::byte_at;
 use slices::clear;
 
-// What is owed is `left` bytes from `from` on, of the old tail or of the list; `at` bytes of the list are used, and `starts` is
+// What is owed is `left` bytes from `from` on, of the old tail or of the list; `at` bytes of the list are used, and `msgstart` is
 // MsgStart so far.
 pub struct Cursor {
     pub tail: bool,
     pub from: usize,
     pub left: usize,
     pub at: usize,
-    pub starts: u16,
+    pub msgstart: u16,
     pub group: Group,
 }
 
@@ -44,14 +46,14 @@ fn raise_bit(g: u8) -> u16
 impl Cursor {
     // At the start of a container, with a tail of so many bytes owed.
     fn begin(len: usize) -> Cursor
-        ensures { λ r. ⌜ r ≡ record { tail = true; from = 0; left = len; at = 0; starts = 0; group = noGroup } ⌝ }
+        ensures { λ r. ⌜ r ≡ record { tail = true; from = 0; left = len; at = 0; msgstart = 0; group = noGroup } ⌝ }
     {
         Cursor {
             tail: true,
             from: 0,
             left: len,
             at: 0,
-            starts: 0,
+            msgstart: 0,
             group: Group::none(),
         }
     }
@@ -67,7 +69,7 @@ impl Cursor {
             from: self.from,
             left: self.left,
             at: self.at,
-            starts: self.starts,
+            msgstart: self.msgstart,
             group: group.add(g, false, 0, 0),
         }
     }
@@ -93,19 +95,19 @@ impl Cursor {
         let group = self.group;
         Cursor {
             tail: self.tail,
-            from: self.from + 20,
-            left: self.left - 20,
+            from: self.from + WIDE,
+            left: self.left - WIDE,
             at: self.at,
-            starts: self.starts,
+            msgstart: self.msgstart,
             group: group.add(g, true, 0, 0),
         }
     }
 
     // The record up to end of what is left of the list starts in granule g, and what is owed stays owed.
-    fn use_record(self, g: u8, end: usize, kind: u8) -> Cursor
+    fn use_record(self, g: u8, end: usize, msgtype: u8) -> Cursor
         requires { ⌜ (self .group .miscs ≤ 2) × (self .group .responses ≤ 4) ⌝ }
-        requires { ⌜ (self .at + end ≤ 4096) × (g < 12) × (self .starts < 2 ^ g) ⌝ }
-        ensures { λ r. ⌜ r ≡ cursorUsed g self end kind ⌝ }
+        requires { ⌜ (self .at + end ≤ 4096) × (g < 12) × (self .msgstart < 2 ^ g) ⌝ }
+        ensures { λ r. ⌜ r ≡ cursorUsed g self end msgtype ⌝ }
     {
         let group = self.group;
         Cursor {
@@ -113,21 +115,21 @@ impl Cursor {
             from: self.from,
             left: self.left,
             at: self.at + end,
-            starts: self.starts + raise_bit(g),
-            group: group.add(g, true, count_miscs(kind), count_responses(kind)),
+            msgstart: self.msgstart + raise_bit(g),
+            group: group.add(g, true, count_miscs(msgtype), count_responses(msgtype)),
         }
     }
 
     // The record from skip to end of what is left of the list starts in granule g of so many bytes: its rest is owed, unless it lies
     // beneath what is owed.
-    fn take_record(self, width: usize, g: u8, skip: usize, end: usize, kind: u8) -> Cursor
+    fn take_record(self, width: usize, g: u8, skip: usize, end: usize, msgtype: u8) -> Cursor
         requires { ⌜ (self .group .miscs ≤ 2) × (self .group .responses ≤ 4) ⌝ }
         requires { ⌜ (self .at + end ≤ 4096) × (skip ≤ end) × (width ≤ 20) ⌝ }
-        requires { ⌜ (g < 12) × (self .starts < 2 ^ g) ⌝ }
-        ensures { λ r. ⌜ r ≡ cursorTaken width g self skip end kind ⌝ }
+        requires { ⌜ (g < 12) × (self .msgstart < 2 ^ g) ⌝ }
+        ensures { λ r. ⌜ r ≡ cursorTaken width g self skip end msgtype ⌝ }
     {
         let from = self.at + (skip + width);
-        let used = self.use_record(g, end, kind);
+        let used = self.use_record(g, end, msgtype);
         if used.left > 0 {
             return used;
         }
@@ -142,7 +144,7 @@ impl Cursor {
             from: from,
             left: left,
             at: used.at,
-            starts: used.starts,
+            msgstart: used.msgstart,
             group: group,
         }
     }
@@ -155,7 +157,7 @@ impl Cursor {
         ensures bytes { λ _. ⌜ now (container .exit) ≡ put (start g) (pad (formatOf format .size g) (take 20 (owedOf (now (tail .entry)) (now (list .entry)) self))) (now (container .entry)) ⌝ }
     {
         let from = self.from;
-        let end = from + 20;
+        let end = from + WIDE;
         if self.tail {
             fill_granule(container, format, g, &tail[from..end]);
             return self.advance(g);
@@ -165,15 +167,15 @@ impl Cursor {
     }
 
     // Whether a message of this type and op may start in granule g; where bytes are owed it lies beneath them.
-    fn admits(self, format: u32, grant: Grant, g: u8, kind: u8, op: u8) -> bool
+    fn admits(self, format: u32, grant: Grant, g: u8, msgtype: u8, op: u8) -> bool
         requires { ⌜ (self .group .miscs ≤ 2) × (self .group .responses ≤ 4) ⌝ }
-        ensures { λ r. ⌜ r ≡ mayBy (formatOf format) grant g self kind op ⌝ }
+        ensures { λ r. ⌜ r ≡ mayBy (formatOf format) grant g self msgtype op ⌝ }
     {
         let group = self.group;
         if self.left > 0 {
-            return group.admits_beneath(format, grant, g, kind, op);
+            return group.admits_beneath(format, grant, g, msgtype, op);
         }
-        group.admits(format, grant, g, kind, op)
+        group.admits(format, grant, g, msgtype, op)
     }
 
     // The message from skip to end of what is left of the list starts in granule g if it may.
@@ -188,21 +190,21 @@ impl Cursor {
         container: &mut [u8],
     ) -> Cursor
         requires { ⌜ (length (now container) ≡ 256) × (g < 12) × (length (now list) ≤ 4096) ⌝ }
-        requires { ⌜ (self .group .miscs ≤ 2) × (self .group .responses ≤ 4) × (self .starts < 2 ^ g) ⌝ }
+        requires { ⌜ (self .group .miscs ≤ 2) × (self .group .responses ≤ 4) × (self .msgstart < 2 ^ g) ⌝ }
         requires { ⌜ (skip + 10 ≤ end) × (self .at + end ≤ length (now list)) ⌝ }
         ensures cursor { λ r. ⌜ r ≡ cursorFirst (formatOf format) grant (now (list .entry)) g self (Whole skip end) ⌝ }
         ensures bytes { λ _. ⌜ now (container .exit) ≡ put (start g) (pad (formatOf format .size g) (bytesFirst (formatOf format) grant (now (list .entry)) g self (Whole skip end))) (now (container .entry)) ⌝ }
     {
         let from = self.at + skip;
-        let kind = byte_at(list, from) % 16;
+        let msgtype = byte_at(list, from) % 16;
         let op = byte_at(list, from + 1);
-        if !self.admits(format, grant, g, kind, op) {
+        if !self.admits(format, grant, g, msgtype, op) {
             return self.pass_over(format, g, container);
         }
         let width = measure_granule(format, g);
         let stop = cut_end(from, self.at + end, width);
         fill_granule(container, format, g, &list[from..stop]);
-        self.take_record(width, g, skip, end, kind)
+        self.take_record(width, g, skip, end, msgtype)
     }
 
     // Nothing is owed, or what is owed passes over granule g: the next record starts there if it may.
@@ -215,7 +217,7 @@ impl Cursor {
         container: &mut [u8],
     ) -> Cursor
         requires { ⌜ (length (now container) ≡ 256) × (g < 12) × (length (now list) ≤ 4096) ⌝ }
-        requires { ⌜ (self .group .miscs ≤ 2) × (self .group .responses ≤ 4) × (self .starts < 2 ^ g) × (self .at ≤ length (now list)) ⌝ }
+        requires { ⌜ (self .group .miscs ≤ 2) × (self .group .responses ≤ 4) × (self .msgstart < 2 ^ g) × (self .at ≤ length (now list)) ⌝ }
         ensures cursor { λ r. ⌜ r ≡ cursorFirst (formatOf format) grant (now (list .entry)) g self (firstOf (drop (self .at) (now (list .entry)))) ⌝ }
         ensures bytes { λ _. ⌜ now (container .exit) ≡ put (start g) (pad (formatOf format .size g) (bytesFirst (formatOf format) grant (now (list .entry)) g self (firstOf (drop (self .at) (now (list .entry)))))) (now (container .entry)) ⌝ }
     {
@@ -243,7 +245,7 @@ impl Cursor {
         ensures bytes { λ _. ⌜ now (container .exit) ≡ put (start g) (pad (formatOf format .size g) (bytesNext (formatOf format) grant (now (tail .entry)) (now (list .entry)) g self)) (now (container .entry)) ⌝ }
     {
         if self.left > 0 {
-            if measure_granule(format, g) == 20 {
+            if measure_granule(format, g) == WIDE {
                 return self.go_on(format, tail, list, g, container);
             }
         }
@@ -278,7 +280,7 @@ pub(crate) fn fill_granules(
     clear(container);
     let mut cursor = Cursor::begin(tail.len());
     let mut g: u8 = 0;
-    while g < 12 {
+    while g < GRANULES {
         cursor = cursor.write_granule(format, grant, tail, list, g, container);
         g += 1;
     }

@@ -35,13 +35,13 @@ pub(crate) fn fill_granule(container: &mut [u8], format: u32, g: u8, src: &[u8])
 }
 
 // Header byte Pi under a MsgStart and a grant.
-fn form_header(starts: u16, grant: Grant, i: u8) -> u8
-    requires { ⌜ (starts < 4096) × (grant .rp < 8) ⌝ }
-    ensures { λ r. ⌜ r ≡ getD (headerBytes grant starts) i 0 ⌝ }
+fn form_header(msgstart: u16, grant: Grant, i: u8) -> u8
+    requires { ⌜ (msgstart < 4096) × (grant .rp < 8) ⌝ }
+    ensures { λ r. ⌜ r ≡ getD (headerBytes grant msgstart) i 0 ⌝ }
 {
     match i {
-        0 => (starts % 256) as u8,
-        1 => (starts / 256) as u8,
+        0 => (msgstart % 256) as u8,
+        1 => (msgstart / 256) as u8,
         2 => {
             if grant.shc {
                 return 1 + 2 * grant.rp;
@@ -57,15 +57,15 @@ fn form_header(starts: u16, grant: Grant, i: u8) -> u8
 }
 
 // Writes the header bytes, each at its place.
-pub(crate) fn write_header(container: &mut [u8], format: u32, starts: u16, grant: Grant)
+pub(crate) fn write_header(container: &mut [u8], format: u32, msgstart: u16, grant: Grant)
     requires { ⌜ length (now container) ≡ 256 ⌝ }
-    requires { ⌜ (starts < 4096) × (grant .rp < 8) ⌝ }
-    ensures { λ _. ⌜ now (container .exit) ≡ setAll (formatOf format .place) 0 (headerBytes grant starts) (now (container .entry)) ⌝ }
+    requires { ⌜ (msgstart < 4096) × (grant .rp < 8) ⌝ }
+    ensures { λ _. ⌜ now (container .exit) ≡ setAll (formatOf format .place) 0 (headerBytes grant msgstart) (now (container .entry)) ⌝ }
 {
     let mut i: u8 = 0;
     while i < 10 {
         let at = locate_header(format, i);
-        container[at] = form_header(starts, grant, i);
+        container[at] = form_header(msgstart, grant, i);
         i += 1;
     }
 }

@@ -8,6 +8,7 @@ ghost use Rattle.message.specs.Places.{miscsBy, responsesBy};
 ghost use Rattle.writer.specs.HoldingMirror.{noGroup, groupNext, legalBy, beneathBy};
 use container::Grant;
 use container::has_counts;
+use message::ACTIVATION;
 use message::count_miscs;
 use message::count_responses;
 use message::is_misc;
@@ -48,40 +49,47 @@ impl Group {
     }
 
     // Whether a message of this type may start behind the cells so far.
-    fn takes(self, kind: u8) -> bool
+    fn takes(self, msgtype: u8) -> bool
         requires { ⌜ (self .miscs ≤ 1000) × (self .responses ≤ 1000) ⌝ }
-        ensures { λ r. ⌜ r ≡ (self .full && (leb (self .miscs + miscsBy kind) 1 && leb (self .responses + responsesBy kind) 4)) ⌝ }
+        ensures { λ r. ⌜ r ≡ (self .full && (leb (self .miscs + miscsBy msgtype) 1 && leb (self .responses + responsesBy msgtype) 4)) ⌝ }
     {
         if !self.full {
             return false;
         }
-        if 1 < self.miscs + count_miscs(kind) {
+        if 1 < self.miscs + count_miscs(msgtype) {
             return false;
         }
-        self.responses + count_responses(kind) <= 4
+        self.responses + count_responses(msgtype) <= 4
     }
 
     // Whether a message of this type and op may start at granule g, beside this header grant.
-    pub(crate) fn admits(self, format: u32, grant: Grant, g: u8, kind: u8, op: u8) -> bool
+    pub(crate) fn admits(self, format: u32, grant: Grant, g: u8, msgtype: u8, op: u8) -> bool
         requires { ⌜ (self .miscs ≤ 1000) × (self .responses ≤ 1000) ⌝ }
-        ensures { λ r. ⌜ r ≡ legalBy (formatOf format) grant g self kind op ⌝ }
+        ensures { λ r. ⌜ r ≡ legalBy (formatOf format) grant g self msgtype op ⌝ }
     {
-        if !may_start(format, g, kind, op) {
+        if !may_start(format, g, msgtype, op) {
             return false;
         }
-        if is_misc(kind, op, 1) {
+        if is_misc(msgtype, op, ACTIVATION) {
             if has_counts(grant) {
                 return false;
             }
         }
-        self.takes(kind)
+        self.takes(msgtype)
     }
 
     // Whether a message of this type and op may lie in granule g beneath what is owed: an Activation never does.
-    pub(crate) fn admits_beneath(self, format: u32, grant: Grant, g: u8, kind: u8, op: u8) -> bool
+    pub(crate) fn admits_beneath(
+        self,
+        format: u32,
+        grant: Grant,
+        g: u8,
+        msgtype: u8,
+        op: u8,
+    ) -> bool
         requires { ⌜ (self .miscs ≤ 1000) × (self .responses ≤ 1000) ⌝ }
-        ensures { λ r. ⌜ r ≡ beneathBy (formatOf format) grant g self kind op ⌝ }
+        ensures { λ r. ⌜ r ≡ beneathBy (formatOf format) grant g self msgtype op ⌝ }
     {
-        !is_misc(kind, op, 1) && self.admits(format, grant, g, kind, op)
+        !is_misc(msgtype, op, ACTIVATION) && self.admits(format, grant, g, msgtype, op)
     }
 }

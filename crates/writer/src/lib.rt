@@ -5,6 +5,6 @@ mod group;
 mod writer;
 
 pub use writer::Answer;
-pub use writer::Opened;
+pub use writer::Created;
 pub use writer::Step;
 pub use writer::Writer;

@@ -8,29 +8,35 @@ ghost use Rattle.lists.specs.Pick.{pick};
 ghost use Rattle.lists.specs.Parts.{pad};
 ghost use Rattle.cause.specs.Checks.{firstFault};
 ghost use Rattle.container.specs.Grants.{planeAllowed};
-ghost use Rattle.writer.specs.Filling.{writerOk, opened, callChecks, fillFault, filling, fillBytes};
+ghost use Rattle.writer.specs.Filling.{writerOk, newWriter, callChecks, fillFault, filling, fillBytes};
 ghost use Rattle.writer.specs.HoldingMirror.{owedOf};
 use crate::cursor::Cursor;
 use crate::cursor::fill_granules;
 use crate::fill::write_header;
 use cause::Cause;
 use cause::Verdict;
+use container::CONTAINER;
 use container::Grant;
+use container::WIDE;
 use container::allows_plane;
+use record::LONGEST_LIST;
 use record::check_list;
 use slices::copy_into;
 use slices::is_zero;
 
+// The most bytes that are owed behind a container.
+const TAIL: usize = 100;
+
 // A format, and the tail that is owed of a message begun before, with zeros behind.
 pub struct Writer {
     pub format: u32,
-    pub tail: [u8; 100],
+    pub tail: [u8; TAIL],
     pub len: usize,
 }
 
 // The answer of a fill: the bytes of the list used, or the refusal.
 pub enum Answer {
-    Filled { used: usize },
+    Accepted { used: usize },
     Refused { cause: Cause, place: u64 },
 }
 
@@ -41,7 +47,7 @@ pub struct Step {
 }
 
 // A new writer, and whether its format is one.
-pub struct Opened {
+pub struct Created {
     pub writer: Writer,
     pub verdict: Verdict,
 }
@@ -57,14 +63,14 @@ fn is_grant(grant: Grant) -> bool
 }
 
 // What is owed behind a container, with zeros behind.
-fn keep_tail(cursor: Cursor, tail: &[u8], list: &[u8]) -> [u8; 100]
+fn keep_tail(cursor: Cursor, tail: &[u8], list: &[u8]) -> [u8; TAIL]
     requires { ⌜ (cursor .left ≤ 100) × (cursor .from ≤ 4300) ⌝ }
     requires { ⌜ (0 < cursor .left → cursor .from + cursor .left ≤ length (pick (cursor .tail) (now tail) (now list))) ⌝ }
     ensures { λ r. ⌜ r ≡ pad 100 (owedOf (now (tail .entry)) (now (list .entry)) cursor) ⌝ }
 {
     let from = cursor.from;
     let left = cursor.left;
-    let mut out = [0u8; 100];
+    let mut out = [0u8; TAIL];
     if left == 0 {
         return out;
     }
@@ -79,23 +85,23 @@ fn keep_tail(cursor: Cursor, tail: &[u8], list: &[u8]) -> [u8; 100]
 
 impl Writer {
     // A writer of a format, with nothing owed.
-    pub fn fresh(format: u32) -> Opened
-        ensures { λ r. ⌜ r ≡ opened format ⌝ }
+    pub fn fresh(format: u32) -> Created
+        ensures { λ r. ⌜ r ≡ newWriter format ⌝ }
     {
         let writer = Writer {
             format: format,
-            tail: [0u8; 100],
+            tail: [0u8; TAIL],
             len: 0,
         };
         if format < 2 {
-            return Opened {
+            return Created {
                 writer: writer,
-                verdict: Verdict::Sound,
+                verdict: Verdict::Accepted,
             };
         }
-        Opened {
+        Created {
             writer: writer,
-            verdict: Verdict::Faulty(Cause::InvalidState, 0),
+            verdict: Verdict::Refused(Cause::InvalidState, 0),
         }
     }
 
@@ -108,32 +114,32 @@ impl Writer {
         if 2 <= self.format {
             return false;
         }
-        if 100 < len {
+        if TAIL < len {
             return false;
         }
-        if len % 20 != 0 {
+        if len % WIDE != 0 {
             return false;
         }
         is_zero(&tail[len..])
     }
 
     // State, container length, list length and grant: causes 19, 1, 18 and 4.
-    fn check_call(self, length: usize, grant: Grant, size: usize) -> Verdict
-        ensures { λ r. ⌜ r ≡ firstFault (callChecks self length grant size) ⌝ }
+    fn check_call(self, bytes: usize, grant: Grant, size: usize) -> Verdict
+        ensures { λ r. ⌜ r ≡ firstFault (callChecks self bytes grant size) ⌝ }
     {
         if !self.is_valid() {
-            return Verdict::Faulty(Cause::InvalidState, 0);
+            return Verdict::Refused(Cause::InvalidState, 0);
         }
-        if size != 256 {
-            return Verdict::Faulty(Cause::ContainerLength, 0);
+        if size != CONTAINER {
+            return Verdict::Refused(Cause::ContainerLength, 0);
         }
-        if 4096 < length {
-            return Verdict::Faulty(Cause::TooLong, 0);
+        if LONGEST_LIST < bytes {
+            return Verdict::Refused(Cause::TooLong, 0);
         }
         if !is_grant(grant) {
-            return Verdict::Faulty(Cause::HeaderGrantForm, 0);
+            return Verdict::Refused(Cause::HeaderGrantForm, 0);
         }
-        Verdict::Sound
+        Verdict::Accepted
     }
 
     // All that is judged before a fill: then the list, cause 17.
@@ -141,7 +147,7 @@ impl Writer {
         ensures { λ r. ⌜ r ≡ fillFault self (now (list .entry)) grant size ⌝ }
     {
         let call = self.check_call(list.len(), grant, size);
-        if let Verdict::Faulty(_, _) = call {
+        if let Verdict::Refused(_, _) = call {
             return call;
         }
         check_list(list)
@@ -153,7 +159,7 @@ impl Writer {
         ensures bytes { λ _. ⌜ now (container .exit) ≡ fillBytes self (now (list .entry)) grant (now (container .entry)) ⌝ }
     {
         let verdict = self.check_fill(list, grant, container.len());
-        if let Verdict::Faulty(cause, place) = verdict {
+        if let Verdict::Refused(cause, place) = verdict {
             return Step {
                 writer: self,
                 answer: Answer::Refused {
@@ -166,14 +172,14 @@ impl Writer {
         let tail = self.tail;
         let len = self.len;
         let cursor = fill_granules(format, grant, &tail[0..len], list, container);
-        write_header(container, format, cursor.starts, grant);
+        write_header(container, format, cursor.msgstart, grant);
         Step {
             writer: Writer {
                 format: format,
                 tail: keep_tail(cursor, &tail[0..len], list),
                 len: cursor.left,
             },
-            answer: Answer::Filled { used: cursor.at },
+            answer: Answer::Accepted { used: cursor.at },
         }
     }
 }

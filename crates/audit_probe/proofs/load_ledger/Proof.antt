@@ -1,5 +1,5 @@
 -- `audit_probe::load_ledger` meets its contract.
-use Rattle.audit_probe.proofs.AuditLaws.{opened-good, opened-bad}
+use Rattle.audit_probe.proofs.AuditLaws.{created-good, created-bad}
 use borrow.Author.Needs.{needs}
 use Rattle.audit_probe.proofs.load_ledger.Statement.{statement}
 use Rattle.audit_probe.proofs.load_ledger.Tie as tie
@@ -23,13 +23,13 @@ returns : tie.Need-returns
 returns c =
     let fresh = c .before .before in
     let first = fresh .before .before .before in
-    opened-good (first .before .before .args .numbers .now) (fresh .fresh .result) (fresh .fresh .ensures) (first .number-at .ensures) (fresh .before .before .load-receiver .ensures) (fresh .before .load-receiver2 .ensures) (c .before .are-numbers .ensures) (c .if1 .taken)
+    created-good (first .before .before .args .numbers .now) (fresh .fresh .result) (fresh .fresh .ensures) (first .number-at .ensures) (fresh .before .before .load-receiver .ensures) (fresh .before .load-receiver2 .ensures) (c .before .are-numbers .ensures) (c .if1 .taken)
 
 returns-2 : tie.Need-returns-2
 returns-2 c =
     let fresh = c .before .before .before in
     let first = fresh .before .before .before in
-    opened-bad (first .before .before .args .numbers .now) (fresh .fresh .result) (fresh .fresh .ensures) (first .number-at .ensures) (fresh .before .before .load-receiver .ensures) (fresh .before .load-receiver2 .ensures) (c .before .before .are-numbers .ensures) (c .before .if1 .left)
+    created-bad (first .before .before .args .numbers .now) (fresh .fresh .result) (fresh .fresh .ensures) (first .number-at .ensures) (fresh .before .before .load-receiver .ensures) (fresh .before .load-receiver2 .ensures) (c .before .before .are-numbers .ensures) (c .before .if1 .left)
 
 pub load-ledger-spec : {M : Type 1} → statement M
 load-ledger-spec =

@@ -1,6 +1,6 @@
 -- `audit_probe::report_entries` meets its contract.
 use mathlib.Core.Path.{_∙_}
-use Rattle.audit_probe.proofs.AuditLaws.{report-refused, report-sound}
+use Rattle.audit_probe.proofs.AuditLaws.{report-refused, report-accepted}
 use borrow.Author.Needs.{needs}
 use Rattle.audit_probe.proofs.report_entries.Statement.{statement}
 use Rattle.audit_probe.proofs.report_entries.Tie as tie
@@ -32,7 +32,7 @@ returns-2 c =
     let load = run .before .before .before in
     let start = load .before .before .before in
     c .report .ensures
-    ∙ report-sound (start .args .numbers .now) (start .args .entries .now) (load .load-ledger .result) (load .load-ledger .ensures) (start .args .direction) (start .args .pool) (run .run-entries .result) (run .before .enum-told .given .1) (run .run-entries .ensures)
+    ∙ report-accepted (start .args .numbers .now) (start .args .entries .now) (load .load-ledger .result) (load .load-ledger .ensures) (start .args .direction) (start .args .pool) (run .run-entries .result) (run .before .enum-told .given .1) (run .run-entries .ensures)
 
 pub report-entries-spec : {M : Type 1} → statement M
 report-entries-spec =

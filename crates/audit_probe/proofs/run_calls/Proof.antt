@@ -1,6 +1,6 @@
 -- `audit_probe::run_calls` meets its contract.
 use mathlib.Core.Path.{_∙_}
-use Rattle.audit_probe.proofs.AuditLaws.{opened-valid, run-refused, run-sound}
+use Rattle.audit_probe.proofs.AuditLaws.{created-valid, run-refused, run-accepted}
 use borrow.Author.Needs.{needs}
 use Rattle.audit_probe.proofs.run_calls.Statement.{statement}
 use Rattle.audit_probe.proofs.run_calls.Tie as tie
@@ -21,7 +21,7 @@ run-each-requires : tie.Need-run-each-requires
 run-each-requires c κs =
     let load = c .before .before .before in
     let start = load .before .before .before in
-    opened-valid (start .args .numbers .now) (start .args .entries .now) (load .load-ledger .result) (load .load-ledger .ensures) (c .enum-told .given .1)
+    created-valid (start .args .numbers .now) (start .args .entries .now) (load .load-ledger .result) (load .load-ledger .ensures) (c .enum-told .given .1)
 
 returns : tie.Need-returns
 returns c =
@@ -33,7 +33,7 @@ returns-2 : tie.Need-returns-2
 returns-2 c =
     let load = c .before .before .before .before in
     let start = load .before .before .before in
-    c .run-each .ensures ∙ run-sound (start .args .numbers .now) (start .args .entries .now) (load .load-ledger .result) (load .load-ledger .ensures) (c .before .enum-told .given .1)
+    c .run-each .ensures ∙ run-accepted (start .args .numbers .now) (start .args .entries .now) (load .load-ledger .result) (load .load-ledger .ensures) (c .before .enum-told .given .1)
 
 pub run-calls-spec : {M : Type 1} → statement M
 run-calls-spec =

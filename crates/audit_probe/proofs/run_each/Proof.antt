@@ -10,18 +10,18 @@ use Rattle.lists.proofs.PartLaws.{rest-is}
 use Rattle.frame.specs.Framing.{framing}
 use Rattle.frame.specs.declared.Framed.the-variants.{Whole}
 use Rattle.ledger.specs.Run.{halted}
-use Rattle.ledger.specs.declared.ledger.Answer.{Answer}
 use Rattle.ledger.proofs.RunLaws.{Running, running-none, running-full, running-ends, entry-within, entry-direction, running-refused, running-more, framed-here, entry-is}
-use Rattle.audit_probe.specs.Audit.{most}
+use Rattle.audit_probe.specs.Audit.{maxRun}
 use Rattle.audit_probe.proofs.AuditLaws.{run-valid}
 use Rattle.audit_probe.proofs.run_each.Statement.{statement}
 use Rattle.audit_probe.proofs.run_each.Tie as tie
+use Rattle.cause.specs.declared.Verdict.{Verdict}
 
 abbrev Inv-loop : tie.InvT-loop
-Inv-loop entries ledger₀ count₀ at₀ ledger count at = Running ledger₀ most entries ledger count at
+Inv-loop entries ledger₀ count₀ at₀ ledger count at = Running ledger₀ maxRun entries ledger count at
 
 abbrev μ-loop : tie.MeasureT-loop
-μ-loop entries ledger₀ count₀ at₀ ledger count at = most - count
+μ-loop entries ledger₀ count₀ at₀ ledger count at = maxRun - count
 
 -- ---- a whole entry is at hand
 
@@ -50,7 +50,7 @@ either : (c : Whole-at) → side c < 2
 either c = entry-direction _ _ _ _ _ _ (c .before .before .before .before .before .before .loop .inv) (c .before .before .before .before .before .loop-test .taken) _ _ _ (whole c)
 
 loop-holds : tie.Need-loop-holds Inv-loop μ-loop
-loop-holds c = running-none (c .before .args .first) most (c .before .args .entries .now) (c .before .pre)
+loop-holds c = running-none (c .before .args .first) maxRun (c .before .args .entries .now) (c .before .pre)
 
 sub-frame-entry : tie.Need-sub-frame-entry Inv-loop μ-loop
 sub-frame-entry c = c .before .loop .inv .inside
@@ -118,7 +118,7 @@ returns-2 c =
     let audited = c .before .before .before .audit in
     let told = c .before .enum-told .given .1 in
     c .stop-run2 .ensures
-    ∙ ap (λ (a : Answer). halted (at-loop .loop .ledger) (at-loop .loop .count) (at-loop .loop .at) a) told
+    ∙ ap (λ (a : Verdict). halted (at-loop .loop .ledger) (at-loop .loop .count) (at-loop .loop .at) a) told
     ∙ running-refused _ _ _ _ _ _ (at-loop .loop .inv) (e .before .before .before .before .before .loop-test .taken) _ _ _ (whole e) (audited .result)
     (entry-is (at-loop .loop .ledger) (bytes e) (here e) (side e) (width e) (audited .ensures)) _ _ told
     ∙ run-valid (start .args .first) (bytes e) (start .pre)
@@ -139,7 +139,7 @@ loop-again c =
     let start = at-loop .before .before in
     let audited = c .before .before .before .audit in
     let same : here e + (width e + 256) ≡ here e + width e + 256 = omega arith in
-    subst (Running (start .args .first) most (bytes e) (audited .result .ledger) (at-loop .loop .count + 1)) same
+    subst (Running (start .args .first) maxRun (bytes e) (audited .result .ledger) (at-loop .loop .count + 1)) same
     (running-more _ _ _ _ _ _ (at-loop .loop .inv) (e .before .before .before .before .before .loop-test .taken) _ _ _ (whole e) (audited .result)
     (entry-is (at-loop .loop .ledger) (bytes e) (here e) (side e) (width e) (audited .ensures)) (c .before .enum-told2 .given .1))
 

@@ -1,6 +1,6 @@
 -- `audit_probe::run_entries` meets its contract.
 use mathlib.Core.Path.{_∙_}
-use Rattle.audit_probe.proofs.AuditLaws.{run-refused, run-sound}
+use Rattle.audit_probe.proofs.AuditLaws.{run-refused, run-accepted}
 use borrow.Author.Needs.{needs}
 use Rattle.audit_probe.proofs.run_entries.Statement.{statement}
 use Rattle.audit_probe.proofs.run_entries.Tie as tie
@@ -30,7 +30,7 @@ returns-2 : tie.Need-returns-2
 returns-2 c =
     let load = c .before .before .before .before in
     let start = load .before .before .before in
-    c .audit-entries .ensures ∙ run-sound (start .args .numbers .now) (start .args .entries .now) (load .load-ledger .result) (load .load-ledger .ensures) (c .before .enum-told .given .1)
+    c .audit-entries .ensures ∙ run-accepted (start .args .numbers .now) (start .args .entries .now) (load .load-ledger .result) (load .load-ledger .ensures) (c .before .enum-told .given .1)
 
 pub run-entries-spec : {M : Type 1} → statement M
 run-entries-spec =

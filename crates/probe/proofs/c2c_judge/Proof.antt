@@ -13,8 +13,8 @@ judge-requires c κs = search needs
 enum-told : tie.Need-enum-told
 enum-told c = search needs
 
-enum-known-judgement : tie.Need-enum-known-judgement
-enum-known-judgement c = search needs
+enum-known-answer : tie.Need-enum-known-answer
+enum-known-answer c = search needs
 
 number-cause-requires : tie.Need-number-cause-requires
 number-cause-requires c κs = search needs
@@ -24,7 +24,7 @@ mul-result c =
     let start = c .before .before .before .before .before .before .before .before in
     let fresh = c .before .before .before .before .before .before .fresh in
     let judge = c .before .before .before .before .judge in
-    let low = refused-small (start .args .format) (start .args .container .now) (fresh .result) (fresh .ensures) (judge .result) (judge .ensures) _ _ _ (c .before .before .judgement .given .1) (c .number-cause .ensures) in
+    let low = refused-small (start .args .format) (start .args .container .now) (fresh .result) (fresh .ensures) (judge .result) (judge .ensures) _ _ _ (c .before .before .answer .given .1) (c .number-cause .ensures) in
     search needs
 
 cast-result : tie.Need-cast-result
@@ -32,7 +32,7 @@ cast-result c =
     let start = c .before .before .before .before .before .before .before .before in
     let fresh = c .before .before .before .before .before .before .fresh in
     let judge = c .before .before .before .before .judge in
-    let low = refused-small (start .args .format) (start .args .container .now) (fresh .result) (fresh .ensures) (judge .result) (judge .ensures) _ _ _ (c .before .before .judgement .given .1) (c .number-cause .ensures) in
+    let low = refused-small (start .args .format) (start .args .container .now) (fresh .result) (fresh .ensures) (judge .result) (judge .ensures) _ _ _ (c .before .before .answer .given .1) (c .number-cause .ensures) in
     search needs
 
 add-result : tie.Need-add-result
@@ -40,7 +40,7 @@ add-result c =
     let start = c .before .before .before .before .before .before .before .before in
     let fresh = c .before .before .before .before .before .before .fresh in
     let judge = c .before .before .before .before .judge in
-    let low = refused-small (start .args .format) (start .args .container .now) (fresh .result) (fresh .ensures) (judge .result) (judge .ensures) _ _ _ (c .before .before .judgement .given .1) (c .number-cause .ensures) in
+    let low = refused-small (start .args .format) (start .args .container .now) (fresh .result) (fresh .ensures) (judge .result) (judge .ensures) _ _ _ (c .before .before .answer .given .1) (c .number-cause .ensures) in
     search needs
 
 returns : tie.Need-returns
@@ -55,7 +55,7 @@ returns-2 c =
     let start = c .before .before .before .before .before .before .before .before in
     let fresh = c .before .before .before .before .before .before .fresh in
     let judge = c .before .before .before .before .judge in
-    refused-code (start .args .format) (start .args .container .now) (fresh .result) (fresh .ensures) (judge .result) (judge .ensures) _ _ _ (c .before .before .judgement .given .1) (c .number-cause .ensures)
+    refused-code (start .args .format) (start .args .container .now) (fresh .result) (fresh .ensures) (judge .result) (judge .ensures) _ _ _ (c .before .before .answer .given .1) (c .number-cause .ensures)
 
 pub c2c-judge-spec : {M : Type 1} → statement M
 c2c-judge-spec =
@@ -64,7 +64,7 @@ c2c-judge-spec =
     fresh-requires
     judge-requires
     enum-told
-    enum-known-judgement
+    enum-known-answer
     number-cause-requires
     mul-result
     cast-result

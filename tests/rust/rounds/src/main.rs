@@ -9,11 +9,12 @@ mod bench {
     include!(concat!(env!("OUT_DIR"), "/bench.rs"));
 }
 
+use bench::cause::Verdict;
 use bench::container::Grant;
 use bench::host::c2c_check;
-use bench::ledger::{Answer, Ledger};
+use bench::ledger::Ledger;
 use bench::log::{LogReader, LogVerdict, Outcome};
-use bench::reader::{Answer as Reading, Judgement, Reader};
+use bench::reader::{Answer as Reading, JudgeAnswer, Reader};
 use bench::slices::is_zero;
 use bench::writer::{Answer as Filling, Writer};
 use count::count;
@@ -47,15 +48,15 @@ fn check(format: u32) -> usize {
 }
 
 fn judge(reader: Reader) -> usize {
-    accepted(|| matches!(reader.judge(&IDLE).judgement, Judgement::Accepted { .. }))
+    accepted(|| matches!(reader.judge(&IDLE).answer, JudgeAnswer::Accepted { .. }))
 }
 
 fn read(reader: Reader) -> usize {
-    accepted(|| matches!(reader.read(&IDLE, &mut [0; LEAST_ROOM]).answer, Reading::Done { .. }))
+    accepted(|| matches!(reader.read(&IDLE, &mut [0; LEAST_ROOM]).answer, Reading::Accepted { .. }))
 }
 
 fn audit(ledger: Ledger, direction: u8) -> usize {
-    accepted(|| matches!(ledger.audit(direction.into(), &IDLE).answer, Answer::Accepted))
+    accepted(|| matches!(ledger.audit(direction.into(), &IDLE).answer, Verdict::Accepted))
 }
 
 /// An entry of an all-zero container, as lists and logs have it.
@@ -64,7 +65,7 @@ fn entry(direction: u8) -> Vec<u8> {
 }
 
 fn audit_entries(ledger: Ledger, direction: u8) -> usize {
-    accepted(|| matches!(ledger.audit_entries(&entry(direction), 1).answer, Answer::Accepted))
+    accepted(|| matches!(ledger.audit_entries(&entry(direction), 1).answer, Verdict::Accepted))
 }
 
 /// The one entry of a log behind a configuration of one byte a number.
@@ -77,7 +78,7 @@ fn consume(ledger: Ledger, direction: u8) -> usize {
 fn fill(format: u32, owed: usize) -> usize {
     let grant = Grant { shc: false, rp: 0, req: 0, rsp: 0, snp: 0, dat: 0 };
     let writer = Writer { format, tail: [0; PART], len: 20 * owed };
-    accepted(|| matches!(writer.fill(&[], grant, &mut IDLE.clone()).answer, Filling::Filled { .. }))
+    accepted(|| matches!(writer.fill(&[], grant, &mut IDLE.clone()).answer, Filling::Accepted { .. }))
 }
 
 /// The counts of an entry from every ledger, in both directions.

@@ -10,7 +10,7 @@ returns : tie.Need-returns
 returns c =
     let g = c .before .args .g in
     let wide : 2 ^ 16 ≤ 2 ^ g = pow-le-pow-right {n = 2} (omega arith) {i = 16} {j = g} (omega arith) in
-    let below : c .before .args .starts < 2 ^ g = omega arith in
+    let below : c .before .args .msgstart < 2 ^ g = omega arith in
     rw (div-eq-of-lt below)
 
 shr-result : tie.Need-shr-result

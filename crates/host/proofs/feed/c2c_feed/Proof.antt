@@ -1,5 +1,5 @@
 -- `host::feed::c2c_feed` meets its contract.
-use Rattle.host.proofs.FeedLaws.{faulty-small, faulty-code, faulty-numbers, faulty-room, three, next-fits, moves, moved-fits, answer-small, sound-code, sound-numbers, sound-room}
+use Rattle.host.proofs.FeedLaws.{verdict-small, refused-number, refused-numbers, refused-room, three, next-fits, moves, moved-fits, answer-small, accepted-zero-code, accepted-numbers, accepted-room}
 use borrow.Author.Needs.{needs}
 use Rattle.host.proofs.feed.c2c_feed.Statement.{statement}
 use Rattle.host.proofs.feed.c2c_feed.Tie as tie
@@ -14,7 +14,7 @@ encode-answer-requires : tie.Need-encode-answer-requires
 encode-answer-requires c κs =
     let a = c .before .before .before .before .before .before .before .before .before .args in
     let call = c .before .before .before .check-call in
-    faulty-small (a .format) (a .feed .now) (a .responses .now) (a .others .now) (a .room .now) _ (call .ensures) _ _ (c .before .verdict .given .1)
+    verdict-small (a .format) (a .feed .now) (a .responses .now) (a .others .now) (a .room .now) _ (call .ensures) _ _ (c .before .verdict .given .1)
 
 same-length : tie.Need-same-length
 same-length c = search needs
@@ -24,8 +24,8 @@ returns c =
     let a = c .before .before .before .before .before .before .before .before .before .before .args in
     let call = c .before .before .before .before .check-call in
     let refused = c .before .before .verdict .given .1 in (
-      faulty-code (a .format) (a .feed .now) (a .responses .now) (a .others .now) (a .room .now) _ (call .ensures) _ _ refused _ (c .encode-answer .ensures),
-      (faulty-numbers (a .format) (a .feed .now) (a .responses .now) (a .others .now) (a .room .now) _ (call .ensures) _ _ refused, faulty-room (a .format) (a .feed .now) (a .responses .now) (a .others .now) (a .room .now) _ (call .ensures) _ _ refused),
+      refused-number (a .format) (a .feed .now) (a .responses .now) (a .others .now) (a .room .now) _ (call .ensures) _ _ refused _ (c .encode-answer .ensures),
+      (refused-numbers (a .format) (a .feed .now) (a .responses .now) (a .others .now) (a .room .now) _ (call .ensures) _ _ refused, refused-room (a .format) (a .feed .now) (a .responses .now) (a .others .now) (a .room .now) _ (call .ensures) _ _ refused),
     )
 
 enum-told : tie.Need-enum-told
@@ -82,8 +82,8 @@ returns-2 c =
     let load = c .before .before .before .before .before .before .before .before .before .before .before .load-feed in
     let step = c .before .before .before .before .before .before .before .before .before .before .next-step in
     let copied = c .before .before .before .before .before .before .before .copy-record .ensures in (
-      sound-code (a .format) (a .feed .now) (a .responses .now) (a .others .now) (a .room .now) _ (call .ensures) sound (load .result) (load .ensures .0) (step .result) (step .ensures) _ _ (copied .0) (c .encode-answer2 .ensures),
-      (sound-numbers (a .format) (a .feed .now) (a .responses .now) (a .others .now) (a .room .now) _ (call .ensures) sound (load .result) (load .ensures .0) (step .result) (step .ensures) _ (c .before .before .before .store-feed .ensures), sound-room (a .format) (a .feed .now) (a .responses .now) (a .others .now) (a .room .now) _ (call .ensures) sound (load .result) (load .ensures .0) (step .result) (step .ensures) _ (copied .1)),
+      accepted-zero-code (a .format) (a .feed .now) (a .responses .now) (a .others .now) (a .room .now) _ (call .ensures) sound (load .result) (load .ensures .0) (step .result) (step .ensures) _ _ (copied .0) (c .encode-answer2 .ensures),
+      (accepted-numbers (a .format) (a .feed .now) (a .responses .now) (a .others .now) (a .room .now) _ (call .ensures) sound (load .result) (load .ensures .0) (step .result) (step .ensures) _ (c .before .before .before .store-feed .ensures), accepted-room (a .format) (a .feed .now) (a .responses .now) (a .others .now) (a .room .now) _ (call .ensures) sound (load .result) (load .ensures .0) (step .result) (step .ensures) _ (copied .1)),
     )
 
 pub c2c-feed-spec : {M : Type 1} → statement M

@@ -2,7 +2,7 @@
 use mathlib.Core.Path.{_∙_}
 use borrow.Author.Needs.{needs}
 use borrow.Author.Tests.{not-true, not-false}
-use Rattle.host.proofs.FeedLaws.{is-ok, call-other, call-invalid, call-small, call-sound}
+use Rattle.host.proofs.FeedLaws.{is-ok, call-other, call-invalid, call-small, call-accepted}
 use Rattle.host.proofs.feed.check_call.Statement.{statement}
 use Rattle.host.proofs.feed.check_call.Tie as tie
 
@@ -38,7 +38,7 @@ returns-4 c =
     let start = c .before .before .before .before .before .before in
     let load = c .before .before .before .load-feed in
     let valid = c .before .before .is-valid in
-    call-sound (start .args .format) (start .args .numbers .now) (start .args .responses) (start .args .others) (start .args .room) (c .before .before .before .before .if1 .left)
+    call-accepted (start .args .format) (start .args .numbers .now) (start .args .responses) (start .args .others) (start .args .room) (c .before .before .before .before .if1 .left)
     (is-ok (start .args .format) (start .args .responses) (start .args .others) (start .args .numbers .now) _ (load .ensures .0) _ (valid .ensures) ∙ not-false _ (c .before .if2 .left)) (c .if3 .left)
 
 pub check-call-spec : {M : Type 1} → statement M

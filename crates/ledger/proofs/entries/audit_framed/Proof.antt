@@ -14,17 +14,17 @@ use Rattle.ledger.specs.Audit.{unchanged}
 use Rattle.ledger.specs.Run.{halted}
 use Rattle.ledger.specs.declared.ledger.Ledger.{Ledger}
 use Rattle.ledger.specs.declared.ledger.Step.{Step}
-use Rattle.ledger.specs.declared.ledger.Answer.{Answer}
-use Rattle.ledger.specs.declared.ledger.Answer.the-variants.{Accepted, Refused}
 use Rattle.ledger.proofs.RunLaws.{stepAt, Running, running-none, running-full, running-ends, entry-within, entry-direction, running-refused, running-back, running-more, framed-here, entry-is, entry-long}
 use Rattle.ledger.proofs.entries.audit_framed.Statement.{statement}
 use Rattle.ledger.proofs.entries.audit_framed.Tie as tie
+use Rattle.cause.specs.declared.Verdict.{Verdict}
+use Rattle.cause.specs.declared.Verdict.the-variants.{Accepted, Refused}
 
 abbrev Inv-loop : tie.InvT-loop
-Inv-loop bytes most state₀ count₀ at₀ state count at = Running state₀ most bytes state count at
+Inv-loop bytes limit state₀ count₀ at₀ state count at = Running state₀ limit bytes state count at
 
 abbrev μ-loop : tie.MeasureT-loop
-μ-loop bytes most state₀ count₀ at₀ state count at = most - count
+μ-loop bytes limit state₀ count₀ at₀ state count at = limit - count
 
 -- ---- a whole entry is at hand
 
@@ -55,16 +55,16 @@ either c = entry-direction _ _ _ _ _ _ (c .before .before .before .before .befor
 -- an accepted entry leads to the next
 gone-on : (c : Whole-at) (t : Step) {s : Ledger} → let h = c .before .before .before .before .before .before in let start = h .before .before in
     t ≡ stepAt (h .loop .state) (here c) (bytes c) (side c) (width c) → t .answer ≡ Accepted → s ≡ t .ledger
-    → Running (start .args .ledger) (start .args .most) (bytes c) s (h .loop .count + 1) (here c + width c + 256)
+    → Running (start .args .ledger) (start .args .limit) (bytes c) s (h .loop .count + 1) (here c + width c + 256)
 gone-on c t q a e =
     let h = c .before .before .before .before .before .before in
     let start = h .before .before in
     let same : here c + (width c + 256) ≡ here c + width c + 256 = omega arith in
-    rw e (subst (Running (start .args .ledger) (start .args .most) (bytes c) (t .ledger) (h .loop .count + 1)) same
+    rw e (subst (Running (start .args .ledger) (start .args .limit) (bytes c) (t .ledger) (h .loop .count + 1)) same
     (running-more _ _ _ _ _ _ (h .loop .inv) (c .before .before .before .before .before .loop-test .taken) _ _ _ (whole c) t q a))
 
 loop-holds : tie.Need-loop-holds Inv-loop μ-loop
-loop-holds c = running-none (c .before .args .ledger) (c .before .args .most) (c .before .args .bytes .now) (c .before .pre)
+loop-holds c = running-none (c .before .args .ledger) (c .before .args .limit) (c .before .args .bytes .now) (c .before .pre)
 
 sub-frame-entry : tie.Need-sub-frame-entry Inv-loop μ-loop
 sub-frame-entry c = c .before .loop .inv .inside
@@ -101,17 +101,17 @@ add-begin c = let r = room c .1 in search needs
 add-end : tie.Need-add-end Inv-loop μ-loop
 add-end c = let r = room c .1 in search needs
 
-sub-rests : tie.Need-sub-rests Inv-loop μ-loop
-sub-rests c = search needs
+sub-is-entry-idle : tie.Need-sub-is-entry-idle Inv-loop μ-loop
+sub-is-entry-idle c = search needs
 
-part-rests-start : tie.Need-part-rests-start Inv-loop μ-loop
-part-rests-start c = search needs
+part-is-entry-idle-start : tie.Need-part-is-entry-idle-start Inv-loop μ-loop
+part-is-entry-idle-start c = search needs
 
-part-rests-end : tie.Need-part-rests-end Inv-loop μ-loop
-part-rests-end c = room c .1
+part-is-entry-idle-end : tie.Need-part-is-entry-idle-end Inv-loop μ-loop
+part-is-entry-idle-end c = room c .1
 
-rests-requires : tie.Need-rests-requires Inv-loop μ-loop
-rests-requires c κs =
+is-entry-idle-requires : tie.Need-is-entry-idle-requires Inv-loop μ-loop
+is-entry-idle-requires c κs =
     let e = c .before in
     (either e, e .before .before .before .before .before .before .loop .inv .kept, entry-long (bytes e) (here e + width e) (room e .1))
 
@@ -145,7 +145,7 @@ returns-2 c =
     let more = e .before .before .before .before .before .loop-test .taken in
     let step = entry-is (at-loop .loop .state) (bytes e) (here e) (side e) (width e) (audited .ensures) in
     c .stop-run2 .ensures
-    ∙ ap (λ (a : Answer). halted (audited .result .ledger) (at-loop .loop .count) (at-loop .loop .at) a) told
+    ∙ ap (λ (a : Verdict). halted (audited .result .ledger) (at-loop .loop .count) (at-loop .loop .at) a) told
     ∙ ap (λ (s : Ledger). halted s (at-loop .loop .count) (at-loop .loop .at) (Refused (refusal .0) (refusal .1 .0)))
     (running-back _ _ _ _ _ _ (at-loop .loop .inv) more _ _ _ (whole e) (audited .result) step _ _ told)
     ∙ running-refused _ _ _ _ _ _ (at-loop .loop .inv) more _ _ _ (whole e) (audited .result) step _ _ told
@@ -163,7 +163,7 @@ loop-again : tie.Need-loop-again Inv-loop μ-loop
 loop-again c =
     let e = c .before .before .before in
     let s = e .before .before .before .before .before .before .loop .state in
-    let seen = c .before .rests in
+    let seen = c .before .is-entry-idle in
     ⊎-elim
     (λ w. gone-on e (w .2 .result) (entry-is s (bytes e) (here e) (side e) (width e) (w .2 .ensures)) (w .5 .given .1) (w .6))
     (λ w. gone-on e (unchanged s) (entry-is s (bytes e) (here e) (side e) (width e) (seen .ensures .1 (not-false (seen .result) (w .0 .left)))) refl (w .1))
@@ -191,10 +191,10 @@ audit-framed-spec =
     returns
     add-begin
     add-end
-    sub-rests
-    part-rests-start
-    part-rests-end
-    rests-requires
+    sub-is-entry-idle
+    part-is-entry-idle-start
+    part-is-entry-idle-end
+    is-entry-idle-requires
     sub-audit-contents
     part-audit-contents-start
     part-audit-contents-end

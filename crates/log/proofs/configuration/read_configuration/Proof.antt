@@ -5,7 +5,7 @@ use native.Mathlib.Omega.{arith}
 use borrow.Author.Needs.{needs}
 use borrow.Author.Tests.{not-true, not-false}
 use Rattle.log.specs.Log.{configurationOf}
-use Rattle.log.proofs.SettingLaws.{Setting-at, setting-begins, loop-broken, loop-wrong, loop-takes, loop-on, setting-ends}
+use Rattle.log.proofs.ConfigurationLaws.{Setting-at, configuration-begins, loop-broken, loop-wrong, loop-takes, loop-on, configuration-ends}
 use Rattle.log.proofs.configuration.read_configuration.Statement.{statement}
 use Rattle.log.proofs.configuration.read_configuration.Tie as tie
 
@@ -16,7 +16,7 @@ abbrev μ-loop : tie.MeasureT-loop
 μ-loop bytes numbers₀ at₀ i₀ numbers at i = 33 - i
 
 loop-holds : tie.Need-loop-holds Inv-loop μ-loop
-loop-holds c = setting-begins _
+loop-holds c = configuration-begins _
 
 sub-read-number : tie.Need-sub-read-number Inv-loop μ-loop
 sub-read-number c = c .before .loop .inv .within
@@ -86,7 +86,7 @@ loop-again c =
     (sym (c .before .suits-place .ensures) ∙ not-false (c .before .suits-place .result) (c .if1 .left))
 
 returns-3 : tie.Need-returns-3 Inv-loop μ-loop
-returns-3 c = ap configurationOf (sym (setting-ends _ _ _ _ (c .before .loop .inv) (c .loop-test .left)))
+returns-3 c = ap configurationOf (sym (configuration-ends _ _ _ _ (c .before .loop .inv) (c .loop-test .left)))
 
 pub read-configuration-spec : {M : Type 1} → statement M
 read-configuration-spec =

@@ -5,7 +5,7 @@ use borrow.Author.Tests.{eq-eqb, ne-eqb, le-leb, lt-leb}
 use Rattle.log.proofs.configuration.suits_receiver.Statement.{statement}
 use Rattle.log.proofs.configuration.suits_receiver.Tie as tie
 use Rattle.lists.proofs.Tests.{or-true}
-use Rattle.log.proofs.SettingLaws.{or-false}
+use Rattle.log.proofs.ConfigurationLaws.{or-false}
 
 returns : tie.Need-returns
 returns c = simp (eq-eqb _ _ (c .before .if1 .taken), lt-leb _ _ (c .if2 .taken))

@@ -21,14 +21,14 @@ returns c = search needs
 returns-2 : tie.Need-returns-2
 returns-2 c =
     let s = c .before .before .before in
-    c .measure-type .ensures ∙ sym (List·getD-append plainSizes (getD opSizes (s .args .op) 0 ∷ []) 0 (s .args .kind) (c .before .if1 .taken))
+    c .measure-type .ensures ∙ sym (List·getD-append plainSizes (getD opSizes (s .args .op) 0 ∷ []) 0 (s .args .msgtype) (c .before .if1 .taken))
 
 returns-3 : tie.Need-returns-3
 returns-3 c = search needs
 
 returns-4 : tie.Need-returns-4
 returns-4 c =
-    let past : 11 ≤ c .before .before .args .kind = omega (arith, c .if1 .left, c .before .match .rest) in
+    let past : 11 ≤ c .before .before .args .msgtype = omega (arith, c .if1 .left, c .before .match .rest) in
     sym (List·getD-eq-default (typeSizes (c .before .before .args .op)) 0 past)
 
 pub measure-code-spec : {M : Type 1} → statement M

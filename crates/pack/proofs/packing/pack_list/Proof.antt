@@ -3,7 +3,7 @@ use Prim.Native.Nat.{_+_, _-_}
 use mathlib.Core.Path.{sym, _∙_}
 use borrow.Author.Needs.{needs}
 use borrow.Rule.Slice.PartMut.{putMid}
-use Rattle.pack.specs.Packing.{mostOutput}
+use Rattle.pack.specs.Packing.{maxOutput}
 use Rattle.pack.proofs.Fills.{Packed, Done, packed-none, packed-out, packed-done, packed-refused, packed-more}
 use Rattle.pack.proofs.packing.pack_list.Statement.{statement}
 use Rattle.pack.proofs.packing.pack_list.Tie as tie
@@ -12,7 +12,7 @@ abbrev Inv-loop : tie.InvT-loop
 Inv-loop list room₀ writer₀ at₀ to₀ room writer at to = Packed (writer₀ .format) list room₀ room writer at to
 
 abbrev μ-loop : tie.MeasureT-loop
-μ-loop list room₀ writer₀ at₀ to₀ room writer at to = mostOutput - to
+μ-loop list room₀ writer₀ at₀ to₀ room writer at to = maxOutput - to
 
 loop-holds : tie.Need-loop-holds Inv-loop μ-loop
 loop-holds c = packed-none _ _ _ _ (c .before .before .pre .0)

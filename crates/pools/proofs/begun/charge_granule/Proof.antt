@@ -10,11 +10,11 @@ read-start-requires c κs = search needs
 locate-granule-requires : tie.Need-locate-granule-requires
 locate-granule-requires c κs = search needs
 
-add-second : tie.Need-add-second
-add-second c = search needs
+add-byte1 : tie.Need-add-byte1
+add-byte1 c = search needs
 
-shared-slice-read-second : tie.Need-shared-slice-read-second
-shared-slice-read-second c = search needs
+shared-slice-read-byte1 : tie.Need-shared-slice-read-byte1
+shared-slice-read-byte1 c = search needs
 
 judge-payment-requires : tie.Need-judge-payment-requires
 judge-payment-requires c κs = search needs
@@ -27,7 +27,7 @@ returns c =
     let judged = c .before .before in
     let located = judged .before .before in
     let s = located .before .before .before .before in
-    charge-refused (s .args .receiver) (s .args .container .now) (s .args .starts) (s .args .g) (s .args .counts .now) (located .before .read-start .ensures) (located .locate-granule .ensures) (judged .judge-payment .ensures) (c .enum-told .given .1)
+    charge-refused (s .args .receiver) (s .args .container .now) (s .args .msgstart) (s .args .g) (s .args .counts .now) (located .before .read-start .ensures) (located .locate-granule .ensures) (judged .judge-payment .ensures) (c .enum-told .given .1)
 
 enum-told-2 : tie.Need-enum-told-2
 enum-told-2 c = search needs
@@ -43,7 +43,7 @@ returns-2 c =
     let judged = c .before .before .before .before .before .before in
     let located = judged .before .before in
     let s = located .before .before .before .before in
-    charge-added (s .args .receiver) (s .args .container .now) (s .args .starts) (s .args .g) (s .args .counts .now) (located .before .read-start .ensures) (located .locate-granule .ensures) (judged .judge-payment .ensures) (c .before .before .add-charges .ensures)
+    charge-added (s .args .receiver) (s .args .container .now) (s .args .msgstart) (s .args .g) (s .args .counts .now) (located .before .read-start .ensures) (located .locate-granule .ensures) (judged .judge-payment .ensures) (c .before .before .add-charges .ensures)
 
 pub charge-granule-spec : {M : Type 1} → statement M
 charge-granule-spec =
@@ -51,8 +51,8 @@ charge-granule-spec =
     (tie.spec
     read-start-requires
     locate-granule-requires
-    add-second
-    shared-slice-read-second
+    add-byte1
+    shared-slice-read-byte1
     judge-payment-requires
     enum-told
     returns

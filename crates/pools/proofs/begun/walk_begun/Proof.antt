@@ -46,7 +46,7 @@ loop-again c =
     let at-loop = c .before .before .before .before .before .before in
     let s = at-loop .before .before in
     walk-on (begun-walks _ _ _) (at-loop .loop .inv) (c .before .before .before .before .before .loop-test .taken) (c .before .before .before .charge-granule .ensures .0) (c .enum-told2 .given .1) (c .before .before .before .charge-granule .ensures .1)
-    (paid-most (s .args .container .now) (s .args .starts) (λ i. at-loop .before .shared-slice-known .given i .fits) (at-loop .loop .g))
+    (paid-most (s .args .container .now) (s .args .msgstart) (λ i. at-loop .before .shared-slice-known .given i .fits) (at-loop .loop .g))
 
 returns-2 : tie.Need-returns-2 Inv-loop μ-loop
 returns-2 c = walk-ends (begun-walks _ _ _) (c .before .loop .inv) (c .loop-test .left)

@@ -23,7 +23,7 @@ returns : tie.Need-returns
 returns c =
     let located = c .before .before .before .before in
     let s = located .before .before .before in
-    no-grant (s .args .receiver) (s .args .container .now) (s .args .starts) (s .args .g) (s .args .counts .now) (c .before .before .before .read-start .ensures) (located .locate-granule .ensures) (c .before .is-misc .ensures) (c .if1 .taken) (s .pre .1 .0)
+    no-grant (s .args .receiver) (s .args .container .now) (s .args .msgstart) (s .args .g) (s .args .counts .now) (c .before .before .before .read-start .ensures) (located .locate-granule .ensures) (c .before .is-misc .ensures) (c .if1 .taken) (s .pre .1 .0)
 
 add-decode-grant : tie.Need-add-decode-grant
 add-decode-grant c = search needs
@@ -73,7 +73,7 @@ returns-2 c =
     let misc = decoded .before .before .before .before .before .before .before in
     let located = misc .before .before .before in
     let s = located .before .before .before in
-    some-grant (s .args .receiver) (s .args .container .now) (s .args .starts) (s .args .g) (s .args .counts .now) (misc .before .before .read-start .ensures) (located .locate-granule .ensures) (misc .is-misc .ensures) (decoded .before .before .before .before .before .before .if1 .left) (decoded .decode-grant .ensures) (c .before .before .take-grant .ensures .0) (c .before .before .take-grant .ensures .1)
+    some-grant (s .args .receiver) (s .args .container .now) (s .args .msgstart) (s .args .g) (s .args .counts .now) (misc .before .before .read-start .ensures) (located .locate-granule .ensures) (misc .is-misc .ensures) (decoded .before .before .before .before .before .before .if1 .left) (decoded .decode-grant .ensures) (c .before .before .take-grant .ensures .0) (c .before .before .take-grant .ensures .1)
 
 pub grant-granule-spec : {M : Type 1} → statement M
 grant-granule-spec =

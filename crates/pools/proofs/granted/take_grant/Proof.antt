@@ -1,7 +1,7 @@
 -- `pools::granted::take_grant` meets its contract.
 use mathlib.Core.Path.{sym, _∙_}
-use Rattle.pools.proofs.PassLaws.{never-sound}
-use Rattle.pools.proofs.GrantedLaws.{sound-pooled}
+use Rattle.pools.proofs.PassLaws.{never-accepted}
+use Rattle.pools.proofs.GrantedLaws.{accepted-pooled}
 use borrow.Author.Needs.{needs}
 use Rattle.pools.proofs.granted.take_grant.Statement.{statement}
 use Rattle.pools.proofs.granted.take_grant.Tie as tie
@@ -13,7 +13,7 @@ enum-told : tie.Need-enum-told
 enum-told c = search needs
 
 returns : tie.Need-returns
-returns c = (c .before .before .judge-grant .ensures, λ t. absurd (never-sound (c .enum-told .given .1) t))
+returns c = (c .before .before .judge-grant .ensures, λ t. absurd (never-accepted (c .enum-told .given .1) t))
 
 enum-told-2 : tie.Need-enum-told-2
 enum-told-2 c = search needs
@@ -21,7 +21,7 @@ enum-told-2 c = search needs
 add-grant-requires : tie.Need-add-grant-requires
 add-grant-requires c κs =
     let s = c .before .before .before .before .before in
-    ((s .pre .0, sound-pooled (s .args .receiver) (s .args .grant) (sym (c .before .before .before .judge-grant .ensures) ∙ c .before .enum-told2 .given .1)), s .pre .1)
+    ((s .pre .0, accepted-pooled (s .args .receiver) (s .args .grant) (sym (c .before .before .before .judge-grant .ensures) ∙ c .before .enum-told2 .given .1)), s .pre .1)
 
 same-length : tie.Need-same-length
 same-length c = search needs

@@ -2,7 +2,7 @@
 use mathlib.Core.Path.{_∙_}
 use native.Mathlib.Omega.{arith}
 use borrow.Author.Needs.{needs}
-use Rattle.pools.proofs.PassLaws.{granted-short, granted-high, granted-refused, granted-sound}
+use Rattle.pools.proofs.PassLaws.{granted-short, granted-high, granted-refused, granted-accepted}
 use Rattle.pools.proofs.granted.tally_granted.Statement.{statement}
 use Rattle.pools.proofs.granted.tally_granted.Tie as tie
 
@@ -12,7 +12,7 @@ refuse-tally-requires c κs = search needs
 returns : tie.Need-returns
 returns c =
     let s = c .before .before .before in
-    c .refuse-tally .ensures ∙ granted-short (s .args .receiver) (s .args .container .now) (s .args .starts) (s .args .grant) (λ e. omega arith)
+    c .refuse-tally .ensures ∙ granted-short (s .args .receiver) (s .args .container .now) (s .args .msgstart) (s .args .grant) (λ e. omega arith)
 
 refuse-tally-requires-2 : tie.Need-refuse-tally-requires-2
 refuse-tally-requires-2 c κs = search needs
@@ -20,7 +20,7 @@ refuse-tally-requires-2 c κs = search needs
 returns-2 : tie.Need-returns-2
 returns-2 c =
     let s = c .before .before .before .before .before in
-    c .refuse-tally2 .ensures ∙ granted-high (s .args .receiver) (s .args .container .now) (s .args .starts) (s .args .grant) (omega arith) (omega arith)
+    c .refuse-tally2 .ensures ∙ granted-high (s .args .receiver) (s .args .container .now) (s .args .msgstart) (s .args .grant) (omega arith) (omega arith)
 
 walk-granted-requires : tie.Need-walk-granted-requires
 walk-granted-requires c κs = search needs
@@ -34,7 +34,7 @@ refuse-tally-requires-3 c κs = search needs
 returns-3 : tie.Need-returns-3
 returns-3 c =
     let s = c .before .before .before .before .before .before .before .before .before in
-    c .refuse-tally3 .ensures ∙ granted-refused (s .args .receiver) (s .args .container .now) (s .args .starts) (s .args .grant) (omega arith) (omega arith) (c .before .before .before .before .walk-granted .ensures) (c .before .before .verdict .given .1)
+    c .refuse-tally3 .ensures ∙ granted-refused (s .args .receiver) (s .args .container .now) (s .args .msgstart) (s .args .grant) (omega arith) (omega arith) (c .before .before .before .before .walk-granted .ensures) (c .before .before .verdict .given .1)
 
 enum-told : tie.Need-enum-told
 enum-told c = search needs
@@ -42,7 +42,7 @@ enum-told c = search needs
 returns-4 : tie.Need-returns-4
 returns-4 c =
     let s = c .before .before .before .before .before .before .before in
-    granted-sound (s .args .receiver) (s .args .container .now) (s .args .starts) (s .args .grant) (omega arith) (omega arith) (c .before .before .walk-granted .ensures) (c .enum-told .given .1)
+    granted-accepted (s .args .receiver) (s .args .container .now) (s .args .msgstart) (s .args .grant) (omega arith) (omega arith) (c .before .before .walk-granted .ensures) (c .enum-told .given .1)
 
 pub tally-granted-spec : {M : Type 1} → statement M
 tally-granted-spec =

@@ -29,7 +29,7 @@ enum-told c = search needs
 returns : tie.Need-returns Inv-loop μ-loop
 returns c =
     let s = c .before .before .before .before .before .before in
-    tallied-before (grantChecks (s .args .receiver) (s .args .grant)) (crdtChecks (s .args .receiver) (s .args .container .now) (s .args .starts) 12 0) (c .before .before .before .take-grant .ensures .0) (c .enum-told .given .1) _ _
+    tallied-before (grantChecks (s .args .receiver) (s .args .grant)) (crdtChecks (s .args .receiver) (s .args .container .now) (s .args .msgstart) 12 0) (c .before .before .before .take-grant .ensures .0) (c .enum-told .given .1) _ _
 
 enum-told-2 : tie.Need-enum-told-2 Inv-loop μ-loop
 enum-told-2 c = search needs
@@ -37,7 +37,7 @@ enum-told-2 c = search needs
 loop-holds : tie.Need-loop-holds Inv-loop μ-loop
 loop-holds c =
     let s = c .before .before .before .before .before .before in
-    granted-starts (s .args .receiver) (s .args .container .now) (s .args .starts) _ (s .args .grant) (c .before .before .before .take-grant .ensures .1 (c .enum-told2 .given .1)) (record { req = omega arith; rsp = omega arith; snp = omega arith; dat = omega arith })
+    granted-starts (s .args .receiver) (s .args .container .now) (s .args .msgstart) _ (s .args .grant) (c .before .before .before .take-grant .ensures .1 (c .enum-told2 .given .1)) (record { req = omega arith; rsp = omega arith; snp = omega arith; dat = omega arith })
 
 slice-aggregate-grant-granule : tie.Need-slice-aggregate-grant-granule Inv-loop μ-loop
 slice-aggregate-grant-granule c = search needs
@@ -55,7 +55,7 @@ returns-2 c =
     let at-loop = c .before .before .before .before .before .before in
     let told = at-loop .before in
     let s = told .before .before .before .before .before .before in
-    all-granted (s .args .receiver) (s .args .container .now) (s .args .starts) _ (s .args .grant) (told .before .before .before .take-grant .ensures .1 (told .enum-told2 .given .1)) (told .before .before .before .take-grant .ensures .0) (told .enum-told2 .given .1)
+    all-granted (s .args .receiver) (s .args .container .now) (s .args .msgstart) _ (s .args .grant) (told .before .before .before .take-grant .ensures .1 (told .enum-told2 .given .1)) (told .before .before .before .take-grant .ensures .0) (told .enum-told2 .given .1)
     (walk-stops (granted-walks _ _ _) (at-loop .loop .inv) (c .before .before .before .before .before .loop-test .taken) (c .before .before .before .grant-granule .ensures .0) (c .enum-told3 .given .1) _)
 
 enum-told-4 : tie.Need-enum-told-4 Inv-loop μ-loop
@@ -73,13 +73,13 @@ loop-again c =
     let told = at-loop .before in
     let s = told .before .before .before .before .before .before in
     walk-on (granted-walks _ _ _) (at-loop .loop .inv) (c .before .before .before .before .before .loop-test .taken) (c .before .before .before .grant-granule .ensures .0) (c .enum-told4 .given .1) (c .before .before .before .grant-granule .ensures .1)
-    (gain-most (s .args .receiver) (s .args .container .now) (s .args .starts) (λ i. told .before .before .before .before .before .shared-slice-known .given i .fits) (at-loop .loop .g))
+    (gain-most (s .args .receiver) (s .args .container .now) (s .args .msgstart) (λ i. told .before .before .before .before .before .shared-slice-known .given i .fits) (at-loop .loop .g))
 
 returns-3 : tie.Need-returns-3 Inv-loop μ-loop
 returns-3 c =
     let told = c .before .before in
     let s = told .before .before .before .before .before .before in
-    all-granted (s .args .receiver) (s .args .container .now) (s .args .starts) _ (s .args .grant) (told .before .before .before .take-grant .ensures .1 (told .enum-told2 .given .1)) (told .before .before .before .take-grant .ensures .0) (told .enum-told2 .given .1)
+    all-granted (s .args .receiver) (s .args .container .now) (s .args .msgstart) _ (s .args .grant) (told .before .before .before .take-grant .ensures .1 (told .enum-told2 .given .1)) (told .before .before .before .take-grant .ensures .0) (told .enum-told2 .given .1)
     (walk-ends (granted-walks _ _ _) (c .before .loop .inv) (c .loop-test .left))
 
 pub walk-granted-spec : {M : Type 1} → statement M

@@ -18,7 +18,7 @@ count-credits-requires c κs = search needs
 add-count-requires : tie.Need-add-count-requires
 add-count-requires one κs =
     let s = one .before .before .before .before in
-    add-first (s .args .first) (s .args .second) (omega arith) (s .args .counts .now) (counts s) (one .before .choose-pool .ensures) (one .count-credits .ensures)
+    add-first (s .args .byte0) (s .args .byte1) (omega arith) (s .args .counts .now) (counts s) (one .before .choose-pool .ensures) (one .count-credits .ensures)
 
 choose-push-requires : tie.Need-choose-push-requires
 choose-push-requires c κs = search needs
@@ -30,7 +30,7 @@ add-count-requires-2 : tie.Need-add-count-requires-2
 add-count-requires-2 two κs =
     let one = two .before .before .before .before .before .before in
     let s = one .before .before .before .before in
-    add-push (s .args .first) (s .args .second) (omega arith) (s .args .counts .now) (counts s) (one .before .choose-pool .ensures) (one .count-credits .ensures) (two .before .before .before .before .before .add-count .ensures) (two .before .choose-push .ensures) (two .count-push .ensures)
+    add-push (s .args .byte0) (s .args .byte1) (omega arith) (s .args .counts .now) (counts s) (one .before .choose-pool .ensures) (one .count-credits .ensures) (two .before .before .before .before .before .add-count .ensures) (two .before .choose-push .ensures) (two .count-push .ensures)
 
 same-length : tie.Need-same-length
 same-length c = search needs
@@ -40,7 +40,7 @@ returns c =
     let two = c .before .before .before in
     let one = two .before .before .before .before .before .before in
     let s = one .before .before .before .before in
-    add-both (s .args .first) (s .args .second) (omega arith) (s .args .counts .now) (counts s) (one .before .choose-pool .ensures) (one .count-credits .ensures) (two .before .before .before .before .before .add-count .ensures) (two .before .choose-push .ensures) (two .count-push .ensures) (c .before .before .add-count2 .ensures)
+    add-both (s .args .byte0) (s .args .byte1) (omega arith) (s .args .counts .now) (counts s) (one .before .choose-pool .ensures) (one .count-credits .ensures) (two .before .before .before .before .before .add-count .ensures) (two .before .choose-push .ensures) (two .count-push .ensures) (c .before .before .add-count2 .ensures)
 
 pub add-charges-spec : {M : Type 1} → statement M
 add-charges-spec =

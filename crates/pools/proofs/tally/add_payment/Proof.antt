@@ -12,10 +12,10 @@ use Rattle.pools.proofs.tally.add_payment.Tie as tie
 
 -- what the message pays
 abbrev charged : tie.Start → Charges
-charged s = chargesBy (s .args .first % 16) (s .args .first) (s .args .second)
+charged s = chargesBy (s .args .byte0 % 16) (s .args .byte0) (s .args .byte1)
 
 able : (s : tie.Start) → Payable (charged s)
-able s = payable (s .args .first) (s .args .second) (omega arith) (classOf (s .args .first % 16))
+able s = payable (s .args .byte0) (s .args .byte1) (omega arith) (classOf (s .args .byte0 % 16))
 
 charge-message-requires : tie.Need-charge-message-requires
 charge-message-requires c κs = search needs

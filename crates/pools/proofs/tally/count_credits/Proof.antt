@@ -7,7 +7,7 @@ use Rattle.pools.proofs.tally.count_credits.Tie as tie
 
 returns : tie.Need-returns
 returns c =
-    let least : 1 ≤ c .before .before .args .kind = omega (arith, c .before .match .rest) in
+    let least : 1 ≤ c .before .before .args .msgtype = omega (arith, c .before .match .rest) in
     rw (le-leb _ _ least, lt-ltb _ _ (c .if1 .taken))
 
 returns-2 : tie.Need-returns-2
@@ -15,7 +15,7 @@ returns-2 c = rw (c .match .keys1)
 
 returns-3 : tie.Need-returns-3
 returns-3 c =
-    let least : 1 ≤ c .before .before .args .kind = omega (arith, c .if1 .left) in
+    let least : 1 ≤ c .before .before .args .msgtype = omega (arith, c .if1 .left) in
     rw (le-leb _ _ least, le-ltb _ _ (c .if1 .left))
 
 pub count-credits-spec : {M : Type 1} → statement M

@@ -17,12 +17,12 @@ start-bit-requires c κs = search needs
 mul-result : tie.Need-mul-result
 mul-result c =
     let s = c .before .before .before .before in
-    record { fits = bit-fits (getD (s .args .container .now) (c .before .before .locate-granule .result) 0) (s .args .starts) (s .args .g) (c .before .before .before .shared-slice-known .given (c .before .before .locate-granule .result) .fits) (c .start-bit .ensures) }
+    record { fits = bit-fits (getD (s .args .container .now) (c .before .before .locate-granule .result) 0) (s .args .msgstart) (s .args .g) (c .before .before .before .shared-slice-known .given (c .before .before .locate-granule .result) .fits) (c .start-bit .ensures) }
 
 returns : tie.Need-returns
 returns c =
     let s = c .before .before .before .before in
-    started-by (s .args .container .now) (s .args .starts) (s .args .g) (c .before .before .locate-granule .ensures) (c .start-bit .ensures)
+    started-by (s .args .container .now) (s .args .msgstart) (s .args .g) (c .before .before .locate-granule .ensures) (c .start-bit .ensures)
 
 pub read-start-spec : {M : Type 1} → statement M
 read-start-spec =

@@ -1,7 +1,7 @@
 -- `reader::cell::judge_cell` meets its contract.
 use native.Mathlib.Omega.{arith}
 use Rattle.container.proofs.Formats.{lawful-of, granule-length}
-use Rattle.reader.proofs.CellLaws.{granule-part, on-wide, same-finding}
+use Rattle.reader.proofs.CellLaws.{granule-part, on-wide, same-answer}
 use borrow.Author.Needs.{needs}
 use Rattle.reader.proofs.cell.judge_cell.Statement.{statement}
 use Rattle.reader.proofs.cell.judge_cell.Tie as tie
@@ -57,7 +57,7 @@ returns c =
     let start = size .before .before in
     let f = start .args .format in
     let g = start .args .g in
-    same-finding f g (start .args .owed) (on .goes-on .ensures) (size .measure-granule .ensures) (starts .starts-at .ensures) (granule-part f g _ (size .measure-granule .result) (start .args .container .now) (place .locate-granule .ensures) (size .measure-granule .ensures)) (c .judge-part .ensures)
+    same-answer f g (start .args .owed) (on .goes-on .ensures) (size .measure-granule .ensures) (starts .starts-at .ensures) (granule-part f g _ (size .measure-granule .result) (start .args .container .now) (place .locate-granule .ensures) (size .measure-granule .ensures)) (c .judge-part .ensures)
 
 pub judge-cell-spec : {M : Type 1} → statement M
 judge-cell-spec =

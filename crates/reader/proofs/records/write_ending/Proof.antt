@@ -18,7 +18,7 @@ use Rattle.reader.proofs.records.write_ending.Tie as tie
 
 -- what ends in granule g as the code finds it, and the longer message that may end there
 abbrev found : tie.Start → List (List ℕ)
-found s = endedBy (formatOf (s .args .format)) (s .args .container .now) (s .args .carry .now) (s .args .starts) (s .args .track) (s .args .g)
+found s = endedBy (formatOf (s .args .format)) (s .args .container .now) (s .args .carry .now) (s .args .msgstart) (s .args .track) (s .args .g)
 
 abbrev long : tie.Start → List ℕ
 long s = gatheredMessage (formatOf (s .args .format)) (s .args .container .now) (s .args .carry .now) (s .args .track) (s .args .g + 1)
@@ -32,8 +32,8 @@ long-ends : (c : tie.Then3) → let s = c .before .before .before .before .befor
 long-ends c =
     let s = c .before .before .before .before .before .before .before .before .before in
     let width = c .before .before .before .before .before .measure-granule in (
-      ended-long (formatOf (s .args .format)) (s .args .container .now) (s .args .carry .now) (s .args .starts) (s .args .track) (s .args .g) _ (width .ensures) (c .before .before .before .if1 .taken) (c .before .before .if2 .taken) (c .if3 .taken),
-      long-sized (formatOf (s .args .format)) (s .args .container .now) (s .args .carry .now) (s .args .starts) (s .args .track) (s .args .g) _ (width .ensures) (c .before .before .before .if1 .taken) (c .before .before .if2 .taken) (s .pre .1 .1 .0) (c .if3 .taken),
+      ended-long (formatOf (s .args .format)) (s .args .container .now) (s .args .carry .now) (s .args .msgstart) (s .args .track) (s .args .g) _ (width .ensures) (c .before .before .before .if1 .taken) (c .before .before .if2 .taken) (c .if3 .taken),
+      long-sized (formatOf (s .args .format)) (s .args .container .now) (s .args .carry .now) (s .args .msgstart) (s .args .track) (s .args .g) _ (width .ensures) (c .before .before .before .if1 .taken) (c .before .before .if2 .taken) (s .pre .1 .1 .0) (c .if3 .taken),
     )
 
 -- no message goes on
@@ -42,8 +42,8 @@ off c =
     let s = c .before .before .before .before .before .before in
     let width = c .before .before .measure-granule in
     ⊎-elim
-    (λ x. off-narrow (formatOf (s .args .format)) (s .args .container .now) (s .args .carry .now) (s .args .starts) (s .args .track) (s .args .g) _ (width .ensures) (x .1 .left))
-    (λ x. off-idle (formatOf (s .args .format)) (s .args .container .now) (s .args .carry .now) (s .args .starts) (s .args .track) (s .args .g) _ (width .ensures) (x .left))
+    (λ x. off-narrow (formatOf (s .args .format)) (s .args .container .now) (s .args .carry .now) (s .args .msgstart) (s .args .track) (s .args .g) _ (width .ensures) (x .1 .left))
+    (λ x. off-idle (formatOf (s .args .format)) (s .args .container .now) (s .args .carry .now) (s .args .msgstart) (s .args .track) (s .args .g) _ (width .ensures) (x .left))
     (c .if1 .came)
 
 -- a message that starts ends
@@ -60,8 +60,8 @@ short-ends c =
     let bit = c .before .before .before .before .before .starts-at .ensures in
     let a = c .before .before .before .locate-granule .ensures in
     let n = c .before .measure-message .ensures in (
-      ended-short (formatOf (s .args .format)) (s .args .container .now) (s .args .carry .now) (s .args .starts) (s .args .track) (s .args .g) _ (width .ensures) started _ bit (c .before .before .before .before .if4 .left) _ a _ n (c .if5 .left),
-      short-small (formatOf (s .args .format)) (s .args .container .now) (s .args .carry .now) (s .args .starts) (s .args .track) (s .args .g) _ (width .ensures) started _ bit (c .before .before .before .before .if4 .left) _ a _ n (c .if5 .left) (lawful-of (s .args .format) .most (s .args .g) (s .pre .1 .0 .1)),
+      ended-short (formatOf (s .args .format)) (s .args .container .now) (s .args .carry .now) (s .args .msgstart) (s .args .track) (s .args .g) _ (width .ensures) started _ bit (c .before .before .before .before .if4 .left) _ a _ n (c .if5 .left),
+      short-small (formatOf (s .args .format)) (s .args .container .now) (s .args .carry .now) (s .args .msgstart) (s .args .track) (s .args .g) _ (width .ensures) started _ bit (c .before .before .before .before .if4 .left) _ a _ n (c .if5 .left) (lawful-of (s .args .format) .most (s .args .g) (s .pre .1 .0 .1)),
     )
 
 measure-granule-requires : tie.Need-measure-granule-requires
@@ -86,7 +86,7 @@ returns-2 : tie.Need-returns-2
 returns-2 c =
     let s = c .before .before .before .before .before .before .before .before .before in
     none-written (s .args .at) (s .args .room .now) (found s)
-    (ended-later (formatOf (s .args .format)) (s .args .container .now) (s .args .carry .now) (s .args .starts) (s .args .track) (s .args .g) _ (c .before .before .before .before .before .measure-granule .ensures) (c .before .before .before .if1 .taken) (c .before .before .if2 .taken) (c .if3 .left))
+    (ended-later (formatOf (s .args .format)) (s .args .container .now) (s .args .carry .now) (s .args .msgstart) (s .args .track) (s .args .g) _ (c .before .before .before .before .before .measure-granule .ensures) (c .before .before .before .if1 .taken) (c .before .before .if2 .taken) (c .if3 .left))
 
 starts-at-requires : tie.Need-starts-at-requires
 starts-at-requires c κs = search needs
@@ -95,7 +95,7 @@ returns-3 : tie.Need-returns-3
 returns-3 c =
     let s = c .before .before .before .before .before .before .before .before in
     none-written (s .args .at) (s .args .room .now) (found s)
-    (ended-none (formatOf (s .args .format)) (s .args .container .now) (s .args .carry .now) (s .args .starts) (s .args .track) (s .args .g) _ (c .before .before .before .before .measure-granule .ensures) (off (c .before .before)) _ (c .before .starts-at .ensures) (c .if4 .taken))
+    (ended-none (formatOf (s .args .format)) (s .args .container .now) (s .args .carry .now) (s .args .msgstart) (s .args .track) (s .args .g) _ (c .before .before .before .before .measure-granule .ensures) (off (c .before .before)) _ (c .before .starts-at .ensures) (c .if4 .taken))
 
 locate-granule-requires : tie.Need-locate-granule-requires
 locate-granule-requires c κs = search needs
@@ -119,7 +119,7 @@ returns-4 : tie.Need-returns-4
 returns-4 c =
     let s = c .before .before .before .before .before .before .before .before .before .before .before .before in
     none-written (s .args .at) (s .args .room .now) (found s)
-    (ended-over (formatOf (s .args .format)) (s .args .container .now) (s .args .carry .now) (s .args .starts) (s .args .track) (s .args .g) _ (c .before .before .before .before .before .before .before .before .measure-granule .ensures) (off (c .before .before .before .before .before .before)) _ (c .before .before .before .before .before .starts-at .ensures) (c .before .before .before .before .if4 .left) _ (c .before .before .before .locate-granule .ensures) _ (c .before .measure-message .ensures) (c .if5 .taken))
+    (ended-over (formatOf (s .args .format)) (s .args .container .now) (s .args .carry .now) (s .args .msgstart) (s .args .track) (s .args .g) _ (c .before .before .before .before .before .before .before .before .measure-granule .ensures) (off (c .before .before .before .before .before .before)) _ (c .before .before .before .before .before .starts-at .ensures) (c .before .before .before .before .if4 .left) _ (c .before .before .before .locate-granule .ensures) _ (c .before .measure-message .ensures) (c .if5 .taken))
 
 add-write-short : tie.Need-add-write-short
 add-write-short c = omega (arith, inside (c .before .before .before .before .before .before .before .before .before .before .before .before))

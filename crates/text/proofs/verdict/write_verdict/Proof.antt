@@ -1,6 +1,6 @@
 -- `text::verdict::write_verdict` meets its contract.
 use native.Mathlib.Omega.{arith}
-use Rattle.cause.specs.declared.Verdict.the-variants.{Sound, Faulty}
+use Rattle.cause.specs.declared.Verdict.the-variants.{Accepted, Refused}
 use Rattle.text.specs.Ascii.{bytesOf}
 use Rattle.text.specs.Lines.{spaced, newline, faultWords, verdictLine}
 use Rattle.text.proofs.DecimalLaws.{spaced-most}
@@ -67,7 +67,7 @@ returns-2 c =
     let end : Wrote _ _ newline _ _ =
     wrote _ _ _ _ _ (omega arith) (c .before .before .write-word2 .ensures) in
     rw (c .before .before .before .before .before .before .before .before .before .before .before .before .before .before .enum-told .given .1)
-    (line-written (verdictLine (s .args .entries) Sound) (s .args .room .now) _ _ (omega arith)
+    (line-written (verdictLine (s .args .entries) Accepted) (s .args .room .now) _ _ (omega arith)
     (wrote-more (omega arith) word (wrote-more (omega arith) count end)))
 
 same-length-2 : tie.Need-same-length-2
@@ -85,7 +85,7 @@ returns-3 c =
     let fault : Wrote _ _ (faultWords (known .0 .0) (known .0 .1 .0)) _ _ =
     wrote _ _ _ _ _ (omega (arith, fault-most (known .0 .0) (known .0 .1 .0))) (c .before .before .write-fault .ensures) in
     rw (known .1)
-    (line-written (verdictLine (s .args .entries) (Faulty (known .0 .0) (known .0 .1 .0))) (s .args .room .now) _ _ (omega arith)
+    (line-written (verdictLine (s .args .entries) (Refused (known .0 .0) (known .0 .1 .0))) (s .args .room .now) _ _ (omega arith)
     (wrote-more (omega arith) word (wrote-more (omega arith) count fault)))
 
 pub write-verdict-spec : {M : Type 1} → statement M

@@ -45,7 +45,7 @@ returns-8 : tie.Need-returns-8
 returns-8 c = search needs
 
 returns-9 : tie.Need-returns-9
-returns-9 c = header-rest (c .before .args .grant) (c .before .args .starts) _ (c .match .rest)
+returns-9 c = header-rest (c .before .args .grant) (c .before .args .msgstart) _ (c .match .rest)
 
 pub form-header-spec : {M : Type 1} → statement M
 form-header-spec =

@@ -1,7 +1,7 @@
 -- `feeder::feed::Feed::check_call` meets its contract.
 use mathlib.Core.Path.{sym, _∙_}
 use borrow.Author.Tests.{not-true, not-false}
-use Rattle.feeder.proofs.StepCases.{call-invalid, call-responses, call-others, call-sound}
+use Rattle.feeder.proofs.StepCases.{call-invalid, call-responses, call-others, call-accepted}
 use borrow.Author.Needs.{needs}
 use Rattle.feeder.proofs.feed.Feed.check_call.Statement.{statement}
 use Rattle.feeder.proofs.feed.Feed.check_call.Tie as tie
@@ -27,7 +27,7 @@ returns-3 c =
 returns-4 : tie.Need-returns-4
 returns-4 c =
     let start = c .before .before .before .before in
-    call-sound (start .args .format) (start .args .responses) (start .args .others) (start .args .self) (sym (c .before .before .before .is-valid .ensures) ∙ not-false _ (c .before .before .if1 .left)) (c .before .if2 .left) (c .if3 .left)
+    call-accepted (start .args .format) (start .args .responses) (start .args .others) (start .args .self) (sym (c .before .before .before .is-valid .ensures) ∙ not-false _ (c .before .before .if1 .left)) (c .before .if2 .left) (c .if3 .left)
 
 pub check-call-spec : {M : Type 1} → statement M
 check-call-spec = tie.close (tie.spec is-valid-requires returns returns-2 returns-3 returns-4)

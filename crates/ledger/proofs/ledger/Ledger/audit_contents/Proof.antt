@@ -15,14 +15,14 @@ choose-reader-requires c κs = search needs
 judge-requires : tie.Need-judge-requires
 judge-requires c κs = search needs
 
-enum-known-judgement : tie.Need-enum-known-judgement
-enum-known-judgement c = search needs
+enum-known-answer : tie.Need-enum-known-answer
+enum-known-answer c = search needs
 
 refuse-requires : tie.Need-refuse-requires
 refuse-requires c κs = search needs
 
-enum-known-judgement-2 : tie.Need-enum-known-judgement-2
-enum-known-judgement-2 c = search needs
+enum-known-answer-2 : tie.Need-enum-known-answer-2
+enum-known-answer-2 c = search needs
 
 audit-read-requires : tie.Need-audit-read-requires
 audit-read-requires c κs =
@@ -33,7 +33,7 @@ audit-read-requires c κs =
     let d = start .args .direction in
     let b = start .args .container .now in
     let made : at-judge .judge .result ≡ judging (readerOf s d) b = at-judge .judge .ensures ∙ ap (λ (r : Reader). judging r b) (reader .choose-reader .ensures) in
-    let a = judged-accepted (readerOf s d) b (at-judge .judge .result) made _ _ (c .before .before .judgement2 .given .1) in
+    let a = judged-accepted (readerOf s d) b (at-judge .judge .result) made _ _ (c .before .before .answer2 .given .1) in
     (start .pre, (a .0, (ap (λ (r : Reader). r .carry) (a .3), (a .1, a .2))))
 
 returns : tie.Need-returns
@@ -45,7 +45,7 @@ returns c =
     let d = start .args .direction in
     let b = start .args .container .now in
     let made : at-judge .judge .result ≡ judging (readerOf s d) b = at-judge .judge .ensures ∙ ap (λ (r : Reader). judging r b) (reader .choose-reader .ensures) in
-    read-refused s d b (start .pre .0) (start .pre .1) (start .pre .2) (judged-refused (readerOf s d) b (at-judge .judge .result) made _ _ (c .before .before .judgement .given .1)) (c .refuse .ensures)
+    read-refused s d b (start .pre .0) (start .pre .1) (start .pre .2) (judged-refused (readerOf s d) b (at-judge .judge .result) made _ _ (c .before .before .answer .given .1)) (c .refuse .ensures)
 
 returns-2 : tie.Need-returns-2
 returns-2 c = search needs
@@ -56,9 +56,9 @@ audit-contents-spec =
     (tie.spec
     choose-reader-requires
     judge-requires
-    enum-known-judgement
+    enum-known-answer
     refuse-requires
-    enum-known-judgement-2
+    enum-known-answer-2
     audit-read-requires
     returns
     returns-2)

@@ -4,31 +4,17 @@ use borrow.Author.Tests.{eq-eqb, ne-eqb}
 use Rattle.ledger.proofs.ledger.Ledger.enter.Statement.{statement}
 use Rattle.ledger.proofs.ledger.Ledger.enter.Tie as tie
 
-flatten-requires : tie.Need-flatten-requires
-flatten-requires c κs = search needs
-
-flatten-requires-2 : tie.Need-flatten-requires-2
-flatten-requires-2 c κs = search needs
-
 renew-requires : tie.Need-renew-requires
 renew-requires c κs = search needs
 
 returns : tie.Need-returns
-returns c = rw (c .renew .ensures, eq-eqb _ _ (c .before .before .if1 .taken), c .before .before .before .flatten2 .ensures, c .before .before .before .before .flatten .ensures)
+returns c = rw (c .renew .ensures, eq-eqb _ _ (c .before .before .if1 .taken))
 
 renew-requires-2 : tie.Need-renew-requires-2
 renew-requires-2 c κs = search needs
 
 returns-2 : tie.Need-returns-2
-returns-2 c = rw (c .renew2 .ensures, ne-eqb _ _ (c .before .before .if1 .left), c .before .before .before .flatten2 .ensures, c .before .before .before .before .flatten .ensures)
+returns-2 c = rw (c .renew2 .ensures, ne-eqb _ _ (c .before .before .if1 .left))
 
 pub enter-spec : {M : Type 1} → statement M
-enter-spec =
-    tie.close
-    (tie.spec
-    flatten-requires
-    flatten-requires-2
-    renew-requires
-    returns
-    renew-requires-2
-    returns-2)
+enter-spec = tie.close (tie.spec renew-requires returns renew-requires-2 returns-2)

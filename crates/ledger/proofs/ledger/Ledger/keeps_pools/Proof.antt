@@ -1,5 +1,5 @@
 -- `ledger::ledger::Ledger::keeps_pools` meets its contract.
-use Rattle.ledger.proofs.LedgerCases.{carry-faulty, pools-decide, books-pools}
+use Rattle.ledger.proofs.LedgerCases.{carry-refused, pools-decide, counts-pools}
 use borrow.Author.Needs.{needs}
 use Rattle.ledger.proofs.ledger.Ledger.keeps_pools.Statement.{statement}
 use Rattle.ledger.proofs.ledger.Ledger.keeps_pools.Tie as tie
@@ -19,7 +19,7 @@ enum-told c = search needs
 returns : tie.Need-returns
 returns c =
     let start = c .before .before .before .before .before .before in
-    carry-faulty (start .args .self) (start .args .direction) (start .pre .0 .1) (start .pre .1) (c .before .before .before .before .byte-at .ensures) (c .before .before .before .byte-at2 .ensures) (c .before .before .judge-payment .ensures) (c .enum-told .given .1)
+    carry-refused (start .args .self) (start .args .direction) (start .pre .0 .1) (start .pre .1) (c .before .before .before .before .byte-at .ensures) (c .before .before .before .byte-at2 .ensures) (c .before .before .judge-payment .ensures) (c .enum-told .given .1)
 
 enum-told-2 : tie.Need-enum-told-2
 enum-told-2 c = search needs
@@ -33,8 +33,8 @@ nest-requires-2 c κs = search needs
 count-carry-requires : tie.Need-count-carry-requires
 count-carry-requires c κs = search needs
 
-keeps-books-requires : tie.Need-keeps-books-requires
-keeps-books-requires c κs = search needs
+keeps-counts-requires : tie.Need-keeps-counts-requires
+keeps-counts-requires c κs = search needs
 
 returns-2 : tie.Need-returns-2
 returns-2 c =
@@ -43,7 +43,7 @@ returns-2 c =
     let d = start .args .direction in
     let judged = c .before .before .before .before .before .before .before .before .before in
     pools-decide s d (start .pre .0 .1) (start .pre .1) (judged .before .before .byte-at .ensures) (judged .before .byte-at2 .ensures) (judged .judge-payment .ensures) (c .before .before .before .before .before .before .before .enum-told2 .given .1)
-    (books-pools s d (start .pre .0 .0) (c .before .before .before .nest .ensures) (c .before .before .nest2 .ensures) (start .pre .1) (c .before .count-carry .ensures) (start .pre .0 .1) (c .keeps-books .ensures))
+    (counts-pools s d (start .pre .0 .0) (c .before .before .before .nest .ensures) (c .before .before .nest2 .ensures) (start .pre .1) (c .before .count-carry .ensures) (start .pre .0 .1) (c .keeps-counts .ensures))
 
 pub keeps-pools-spec : {M : Type 1} → statement M
 keeps-pools-spec =
@@ -58,5 +58,5 @@ keeps-pools-spec =
     nest-requires
     nest-requires-2
     count-carry-requires
-    keeps-books-requires
+    keeps-counts-requires
     returns-2)

@@ -83,11 +83,11 @@ settle-held-requires c κs =
     let n : length paid ≡ 14 = search needs in
     let m : length given ≡ 14 = search needs in
     let other = c .before .before .before .before .before .before .before .before .choose-receiver in
-    let most : (p : ℕ) → Fits w32 (getD (other .result .capacities) p 0) = λ p. search needs in (
+    let limit : (p : ℕ) → Fits w32 (getD (other .result .capacities) p 0) = λ p. search needs in (
       start .pre .0,
       (
         begun-covered s d (start .args .next) paid given (c .before .before .before .before .before .before .before .before .before .before .before .before .before .before .nest .ensures) (c .before .before .before .before .before .before .before .before .before .before .before .before .before .judge-begun .ensures) (c .before .before .before .before .before .before .before .before .before .before .before .enum-told .given .1) n,
-        granted-fits s d (start .args .next) paid given (c .before .before .before .before .before .before .before .before .before .before .before .before .before .before .nest .ensures) (c .before .before .before .before .before .before .before .before .before .before .before .before .before .judge-begun .ensures) (c .before .before .before .before .before .before .before .before .before .before .before .enum-told .given .1) (c .before .before .before .before .before .before .before .before .before .nest2 .ensures) refl (c .before .before .before .before .before .before .before .before .choose-receiver .ensures) (c .before .before .before .before .before .before .judge-granted .ensures) (c .before .before .before .before .enum-told2 .given .1) m (λ p. most p .fits),
+        granted-fits s d (start .args .next) paid given (c .before .before .before .before .before .before .before .before .before .before .before .before .before .before .nest .ensures) (c .before .before .before .before .before .before .before .before .before .before .before .before .before .judge-begun .ensures) (c .before .before .before .before .before .before .before .before .before .before .before .enum-told .given .1) (c .before .before .before .before .before .before .before .before .before .nest2 .ensures) refl (c .before .before .before .before .before .before .before .before .choose-receiver .ensures) (c .before .before .before .before .before .before .judge-granted .ensures) (c .before .before .before .before .enum-told2 .given .1) m (λ p. limit p .fits),
       ),
     )
 

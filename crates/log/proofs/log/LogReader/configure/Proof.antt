@@ -4,13 +4,13 @@ use mathlib.Core.Bool.{Bool}
 use Rattle.lists.specs.Pick.{pick}
 use Rattle.cause.specs.declared.Cause.the-variants.{InvalidState}
 use Rattle.ledger.specs.declared.ledger.Ledger.{Ledger}
-use Rattle.log.specs.Log.{Setting, set-up, settingOf}
-use Rattle.log.specs.Stream.{most, stoppedAt, readFrom, started, startBy}
+use Rattle.log.specs.Log.{ConfigurationAnswer, configures, configurationAt}
+use Rattle.log.specs.Stream.{maxEntries, stoppedAt, readFrom, started, startBy}
 use Rattle.log.specs.ConcludingMirror.{readOn}
 use Rattle.log.specs.declared.log.LogVerdict.the-variants.{Refused}
 use Rattle.log.specs.declared.log.Outcome.{Outcome}
 use Rattle.log.specs.declared.log.Outcome.the-variants.{Over}
-use Rattle.log.proofs.SettingLaws.{told-wrong, told-good}
+use Rattle.log.proofs.ConfigurationLaws.{told-wrong, told-good}
 use Rattle.log.proofs.LogCalls.{started-runs}
 use borrow.Author.Needs.{needs}
 use Rattle.log.proofs.log.LogReader.configure.Statement.{statement}
@@ -36,7 +36,7 @@ start-ledger-requires c κs = search needs
 
 -- the configuration is taken
 taken : (c : tie.After-start-ledger) → let r = c .before .before .before .before .read-configuration .result in
-    settingOf (c .before .before .before .before .before .before .args .bytes .now) ≡ set-up (r .numbers) (r .used)
+    configurationAt (c .before .before .before .before .before .before .args .bytes .now) ≡ configures (r .numbers) (r .used)
 taken c =
     let at-read = c .before .before .before .before in
     told-good (at-read .before .before .args .bytes .now) (at-read .read-configuration .result) (at-read .read-configuration .ensures) (c .before .before .enum-told .given .1)
@@ -54,7 +54,7 @@ returns c =
     let start = at-read .before .before in
     c .stop-at .ensures
     ∙ ap (λ (o : Outcome). stoppedAt 0 (start .args .self) o) (c .before .refuse-log .ensures)
-    ∙ ap (λ (t : Setting). startBy (start .args .self) (start .args .bytes .now) (start .args .ended) t)
+    ∙ ap (λ (t : ConfigurationAnswer). startBy (start .args .self) (start .args .bytes .now) (start .args .ended) t)
     (sym (told-wrong (start .args .bytes .now) (at-read .read-configuration .result) (at-read .read-configuration .ensures) _ _ (c .before .before .before .verdict .given .1)))
 
 returns-2 : tie.Need-returns-2
@@ -66,8 +66,8 @@ returns-2 c =
     let set = taken (c .before) in
     c .read-entries .ensures
     ∙ ap (λ (x : Ledger). readOn (record { ledger = x; entries = 0; offset = r .used }) b (r .used) (start .args .ended)) (c .before .start-ledger .ensures)
-    ∙ ap (λ (t : Bool). pick t (readFrom most (start .args .ended) b (r .used) (started (r .numbers) (r .used))) (stoppedAt (r .used) (started (r .numbers) (r .used)) (Over (Refused 0 InvalidState 0)))) (started-runs b (r .numbers) (r .used) set .0 .kept)
-    ∙ ap (λ (t : Setting). startBy (start .args .self) b (start .args .ended) t) (sym set)
+    ∙ ap (λ (t : Bool). pick t (readFrom maxEntries (start .args .ended) b (r .used) (started (r .numbers) (r .used))) (stoppedAt (r .used) (started (r .numbers) (r .used)) (Over (Refused 0 InvalidState 0)))) (started-runs b (r .numbers) (r .used) set .0 .kept)
+    ∙ ap (λ (t : ConfigurationAnswer). startBy (start .args .self) b (start .args .ended) t) (sym set)
 
 pub configure-spec : {M : Type 1} → statement M
 configure-spec =

@@ -6,23 +6,23 @@ use lib.ListN.{length, drop, length-drop}
 use borrow.Author.Needs.{needs}
 use Rattle.lists.proofs.PartLaws.{rest-is}
 use Rattle.ledger.specs.Run.{runOver}
-use Rattle.ledger.specs.declared.ledger.Answer.{Answer}
-use Rattle.log.specs.Stream.{most, stoppedAt}
+use Rattle.log.specs.Stream.{maxEntries, stoppedAt}
 use Rattle.log.specs.ConcludingMirror.{concluding}
 use Rattle.log.specs.declared.log.Outcome.{Outcome}
 use Rattle.log.proofs.LogRuns.{stateBy, saidBy, call-run, run-room}
 use Rattle.log.proofs.log.LogReader.read_entries.Statement.{statement}
 use Rattle.log.proofs.log.LogReader.read_entries.Tie as tie
+use Rattle.cause.specs.declared.Verdict.{Verdict}
 
 -- the run over the entries at hand
 ran : (c : tie.After-audit-entries) → let start = c .before .before .before .before in
-    c .audit-entries .result ≡ runOver (start .args .self .ledger) (most - start .args .self .entries) (drop (start .args .from) (start .args .bytes .now))
+    c .audit-entries .result ≡ runOver (start .args .self .ledger) (maxEntries - start .args .self .entries) (drop (start .args .from) (start .args .bytes .now))
 ran c =
     let start = c .before .before .before .before in
-    c .audit-entries .ensures ∙ ap (λ (l : List ℕ). runOver (start .args .self .ledger) (most - start .args .self .entries) l) (rest-is (start .args .bytes .now) (start .args .from))
+    c .audit-entries .ensures ∙ ap (λ (l : List ℕ). runOver (start .args .self .ledger) (maxEntries - start .args .self .entries) l) (rest-is (start .args .bytes .now) (start .args .from))
 
 room : (c : tie.After-audit-entries) → let start = c .before .before .before .before in let r = c .audit-entries .result in
-    (start .args .from + r .used ≤ length (start .args .bytes .now)) × (start .args .self .entries + r .accepted ≤ most) × (start .args .self .offset + r .used ≤ 165 + 261 * most)
+    (start .args .from + r .used ≤ length (start .args .bytes .now)) × (start .args .self .entries + r .accepted ≤ maxEntries) × (start .args .self .offset + r .used ≤ 165 + 261 * maxEntries)
 room c =
     let start = c .before .before .before .before in
     run-room (start .args .bytes .now) (start .args .from) (start .args .ended) (start .args .self) (c .audit-entries .result) (ran c) (start .pre .1) (start .pre .2) (start .pre .0)
@@ -81,7 +81,7 @@ returns c =
     let r = at-run .audit-entries .result in
     c .stop-at .ensures
     ∙ ap (λ (o : Outcome). stoppedAt (start .args .from + r .used) (stateBy b (start .args .from) (start .args .ended) s r) o)
-    (c .before .refuse-log .ensures ∙ ap (λ (a : Answer). saidBy a (s .entries + r .accepted) (s .offset + r .used) (length (drop (start .args .from + r .used) b)) (start .args .ended)) (sym (c .before .before .before .answer .given .1)))
+    (c .before .refuse-log .ensures ∙ ap (λ (a : Verdict). saidBy a (s .entries + r .accepted) (s .offset + r .used) (length (drop (start .args .from + r .used) b)) (start .args .ended)) (sym (c .before .before .before .answer .given .1)))
     ∙ call-run b (start .args .from) (start .args .ended) s r (start .pre .1) (ran at-run)
 
 returns-2 : tie.Need-returns-2
@@ -96,7 +96,7 @@ returns-2 c =
     ∙ ap (λ (o : Outcome). stoppedAt at (stateBy b (start .args .from) (start .args .ended) s r) o)
     (c .before .conclude .ensures
     ∙ ap (λ (n : ℕ). concluding (s .entries + r .accepted) (s .offset + r .used) n (start .args .ended)) (sym (length-drop at b))
-    ∙ ap (λ (a : Answer). saidBy a (s .entries + r .accepted) (s .offset + r .used) (length (drop at b)) (start .args .ended)) (sym (c .before .before .enum-told .given .1)))
+    ∙ ap (λ (a : Verdict). saidBy a (s .entries + r .accepted) (s .offset + r .used) (length (drop at b)) (start .args .ended)) (sym (c .before .before .enum-told .given .1)))
     ∙ call-run b (start .args .from) (start .args .ended) s r (start .pre .1) (ran at-run)
 
 pub read-entries-spec : {M : Type 1} → statement M

@@ -43,7 +43,7 @@ returns c =
     let told = plane .before in
     let kind = told .before .before in
     let args = kind .before .args in
-    plane-stops (args .self) (args .kind) (args .first) (args .second) (kind .classify-message .ensures) (told .enum-told6 .given .1) (plane .judge-plane2 .ensures) (c .enum-told7 .given .1)
+    plane-stops (args .self) (args .msgtype) (args .byte0) (args .byte1) (kind .classify-message .ensures) (told .enum-told6 .given .1) (plane .judge-plane2 .ensures) (c .enum-told7 .given .1)
 
 enum-told-8 : tie.Need-enum-told-8
 enum-told-8 c = search needs
@@ -75,7 +75,7 @@ returns-7 c =
     let told = plane .before in
     let kind = told .before .before in
     let args = kind .before .args in
-    push-decides (args .self) (args .kind) (args .first) (args .second) (kind .classify-message .ensures) (told .enum-told6 .given .1) (plane .judge-plane2 .ensures) (c .before .enum-told8 .given .1) (c .judge-push .ensures)
+    push-decides (args .self) (args .msgtype) (args .byte0) (args .byte1) (kind .classify-message .ensures) (told .enum-told6 .given .1) (plane .judge-plane2 .ensures) (c .before .enum-told8 .given .1) (c .judge-push .ensures)
 
 returns-8 : tie.Need-returns-8
 returns-8 c = search needs

@@ -6,7 +6,7 @@ use Rattle.pools.proofs.receiver.Receiver.judge_data.Statement.{stateme
 use Rattle.pools.proofs.receiver.Receiver.judge_data.Tie as tie
 
 returns : tie.Need-returns
-returns c = rw (c .if1 .taken, or-true (sharedCrdt (c .before .args .first)))
+returns c = rw (c .if1 .taken, or-true (sharedCrdt (c .before .args .byte0)))
 
 returns-2 : tie.Need-returns-2
 returns-2 c = rw (c .if2 .taken)

@@ -8,7 +8,7 @@ use lib.Dec.{eqb}
 use Rattle.lists.specs.Pick.{pick}
 use Rattle.cause.specs.Checks.{firstFault}
 use Rattle.cause.specs.declared.Cause.the-variants.{MissingPool}
-use Rattle.cause.specs.declared.Verdict.the-variants.{Sound, Faulty}
+use Rattle.cause.specs.declared.Verdict.the-variants.{Accepted, Refused}
 use Rattle.container.specs.declared.grant.Grant.{Grant}
 use Rattle.pools.specs.Pools.{grantChecks}
 use Rattle.pools.specs.declared.receiver.Receiver.{Receiver}
@@ -48,11 +48,11 @@ self c = c .before .before .before .before .before .args .self
 abbrev grant : tie.Else3 → Grant
 grant c = c .before .before .before .before .before .args .grant
 
-pushed : (c : tie.Else3) → grant c .rp < 2 → self c .push ≡ true → Sound ≡ firstFault (grantChecks (self c) (grant c))
+pushed : (c : tie.Else3) → grant c .rp < 2 → self c .push ≡ true → Accepted ≡ firstFault (grantChecks (self c) (grant c))
 pushed c = grant-pushed (self c) (grant c) (c .before .before .before .before .if1 .left) (c .before .before .if2 .left) (c .if3 .left)
 
 unpushed : (c : tie.Else3) → self c .push ≡ false → (p : ℕ) → p ≡ pick (eqb (grant c .rp) 0) 12 13
-    → Faulty MissingPool p ≡ firstFault (grantChecks (self c) (grant c))
+    → Refused MissingPool p ≡ firstFault (grantChecks (self c) (grant c))
 unpushed c = grant-unpushed (self c) (grant c) (c .before .before .before .before .if1 .left) (c .before .before .if2 .left) (c .if3 .left)
 
 returns-4 : tie.Need-returns-4

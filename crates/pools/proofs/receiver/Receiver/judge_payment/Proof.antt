@@ -11,7 +11,7 @@ has-every-pool-requires c κs = search needs
 returns : tie.Need-returns
 returns c =
     let args = c .before .before .args in
-    every-pool (args .self) (args .kind) (args .first) (args .second) (sym (c .before .has-every-pool .ensures) ∙ c .if1 .taken)
+    every-pool (args .self) (args .msgtype) (args .byte0) (args .byte1) (sym (c .before .has-every-pool .ensures) ∙ c .if1 .taken)
 
 judge-class-requires : tie.Need-judge-class-requires
 judge-class-requires c κs = search needs

@@ -7,7 +7,7 @@ use Rattle.pools.proofs.receiver.Receiver.judge_push.Statement.{stateme
 use Rattle.pools.proofs.receiver.Receiver.judge_push.Tie as tie
 
 returns : tie.Need-returns
-returns c = rw (c .before .before .if1 .taken, le-leb _ _ (c .if2 .taken), or-true (eqb (c .before .before .before .args .second % 2) 1))
+returns c = rw (c .before .before .if1 .taken, le-leb _ _ (c .if2 .taken), or-true (eqb (c .before .before .before .args .byte1 % 2) 1))
 
 returns-2 : tie.Need-returns-2
 returns-2 c = rw (c .before .before .before .if1 .taken, c .if3 .taken)

@@ -1,6 +1,6 @@
 -- `reader::reader::Reader::judge` meets its contract.
 use mathlib.Core.Path.{sym, _∙_}
-use Rattle.reader.proofs.AnswerLaws.{judge-entry-faulty, sound-entry}
+use Rattle.reader.proofs.AnswerLaws.{judge-entry-refused, accepted-entry}
 use borrow.Author.Needs.{needs}
 use Rattle.reader.proofs.reader.Reader.judge.Statement.{statement}
 use Rattle.reader.proofs.reader.Reader.judge.Tie as tie
@@ -18,7 +18,7 @@ returns : tie.Need-returns
 returns c =
     let start = c .before .before .before .before .before .before in
     c .refuse-judging .ensures
-    ∙ judge-entry-faulty (start .args .self) (start .args .container .now) _ _ (sym (c .before .before .before .before .check-entry .ensures) ∙ c .before .before .entry .given .1)
+    ∙ judge-entry-refused (start .args .self) (start .args .container .now) _ _ (sym (c .before .before .before .before .check-entry .ensures) ∙ c .before .before .entry .given .1)
 
 enum-told : tie.Need-enum-told
 enum-told c = search needs
@@ -26,7 +26,7 @@ enum-told c = search needs
 judge-valid-requires : tie.Need-judge-valid-requires
 judge-valid-requires c κs =
     let start = c .before .before .before .before in
-    sound-entry (start .args .self) _ (sym (c .before .before .check-entry .ensures) ∙ c .enum-told .given .1)
+    accepted-entry (start .args .self) _ (sym (c .before .before .check-entry .ensures) ∙ c .enum-told .given .1)
 
 returns-2 : tie.Need-returns-2
 returns-2 c = search needs

@@ -2,14 +2,14 @@
 use mathlib.Core.Path.{_≡_, sym, _∙_}
 use native.Mathlib.Omega.{arith}
 use lib.ListN.{length}
-use Rattle.reader.proofs.AnswerLaws.{judge-faulty, judge-sound}
+use Rattle.reader.proofs.AnswerLaws.{judge-checks-refused, judge-checks-accepted}
 use Rattle.reader.proofs.NextLaws.{carry-part, valid-short, valid-begun, looked-verdict, looked-track, looked-pass}
 use borrow.Author.Needs.{needs}
 use Rattle.reader.proofs.reader.Reader.judge_valid.Statement.{statement}
 use Rattle.reader.proofs.reader.Reader.judge_valid.Tie as tie
 
-read-starts-requires : tie.Need-read-starts-requires
-read-starts-requires c κs = search needs
+read-msgstart-requires : tie.Need-read-msgstart-requires
+read-msgstart-requires c κs = search needs
 
 read-grant-requires : tie.Need-read-grant-requires
 read-grant-requires c κs = search needs
@@ -31,7 +31,7 @@ judge-container-requires : tie.Need-judge-container-requires
 judge-container-requires c κs =
     let start = c .before .before .before .before .before .before in
     let s = start .args .self in
-    (start .pre .1, (c .before .before .before .read-starts .ensures, (c .before .before .read-grant .ensures, rw (carry-part (s .carry)) (valid-begun s (start .pre .0)))))
+    (start .pre .1, (c .before .before .before .read-msgstart .ensures, (c .before .before .read-grant .ensures, rw (carry-part (s .carry)) (valid-begun s (start .pre .0)))))
 
 enum-known-verdict : tie.Need-enum-known-verdict
 enum-known-verdict c = search needs
@@ -45,7 +45,7 @@ returns c =
     let s = start .args .self in
     let at-scan = c .before .before .before .before in
     c .refuse-judging .ensures
-    ∙ judge-faulty s (start .args .container .now) (start .pre .0) (start .pre .1) _ _ (sym (looked-verdict s (start .args .container .now) (at-scan .judge-container .result) (at-scan .judge-container .ensures)) ∙ c .before .before .verdict .given .1)
+    ∙ judge-checks-refused s (start .args .container .now) (start .pre .0) (start .pre .1) _ _ (sym (looked-verdict s (start .args .container .now) (at-scan .judge-container .result) (at-scan .judge-container .ensures)) ∙ c .before .before .verdict .given .1)
 
 enum-told : tie.Need-enum-told
 enum-told c = search needs
@@ -68,14 +68,14 @@ returns-2 c =
     let b = start .args .container .now in
     let at-scan = c .before .before .before .before in
     let sound = sym (looked-verdict s b (at-scan .judge-container .result) (at-scan .judge-container .ensures)) ∙ c .before .before .enum-told .given .1 in
-    judge-sound s b (start .pre .0) (start .pre .1) sound (c .carry-on .result) (c .carry-on .ensures) (at-scan .before .before .before .read-grant .result) (at-scan .before .before .before .read-grant .ensures)
-    (at-scan .before .before .before .before .read-starts .result) (at-scan .before .before .before .before .read-starts .ensures)
+    judge-checks-accepted s b (start .pre .0) (start .pre .1) sound (c .carry-on .result) (c .carry-on .ensures) (at-scan .before .before .before .read-grant .result) (at-scan .before .before .before .read-grant .ensures)
+    (at-scan .before .before .before .before .read-msgstart .result) (at-scan .before .before .before .before .read-msgstart .ensures)
 
 pub judge-valid-spec : {M : Type 1} → statement M
 judge-valid-spec =
     tie.close
     (tie.spec
-    read-starts-requires
+    read-msgstart-requires
     read-grant-requires
     sub-judge-container
     part-judge-container-start

@@ -5,7 +5,7 @@ use mathlib.Core.List.{List}
 use native.Mathlib.Omega.{arith}
 use lib.ListN.{length}
 use Rattle.lists.specs.Parts.{put}
-use Rattle.reader.proofs.AnswerLaws.{sound-entry, read-entry, read-narrow, read-roomy, read-refused, read-done, room-refused, room-done, judged-refused, judged-accepted}
+use Rattle.reader.proofs.AnswerLaws.{accepted-entry, read-entry, read-narrow, read-roomy, read-refused, read-done, room-refused, room-done, judged-refused, judged-accepted}
 use Rattle.reader.proofs.NextLaws.{carry-part, valid-carry, valid-short, carried-short, records-part}
 use borrow.Author.Needs.{needs}
 use Rattle.reader.proofs.reader.Reader.read.Statement.{statement}
@@ -41,23 +41,23 @@ returns-2 c =
     let s = start .args .self in
     let b = start .args .container .now in
     let room = start .args .room .now in
-    let v = sound-entry s (length b) (sym (c .before .before .before .before .check-entry .ensures) ∙ c .before .before .enum-told .given .1) in
+    let v = accepted-entry s (length b) (sym (c .before .before .before .before .check-entry .ensures) ∙ c .before .before .enum-told .given .1) in
     let e = read-narrow s b (length room) (v .0) (v .1) (c .before .if1 .taken) in
     (read-refused s b (length room) _ _ e (c .refuse2 .result) (c .refuse2 .ensures), room-refused s b room _ _ e)
 
 judge-valid-requires : tie.Need-judge-valid-requires
 judge-valid-requires c κs =
     let start = c .before .before .before .before .before .before in
-    sound-entry (start .args .self) (length (start .args .container .now)) (sym (c .before .before .before .check-entry .ensures) ∙ c .before .enum-told .given .1)
+    accepted-entry (start .args .self) (length (start .args .container .now)) (sym (c .before .before .before .check-entry .ensures) ∙ c .before .enum-told .given .1)
 
-enum-known-judgement : tie.Need-enum-known-judgement
-enum-known-judgement c = search needs
+enum-known-answer : tie.Need-enum-known-answer
+enum-known-answer c = search needs
 
 refuse-requires-3 : tie.Need-refuse-requires-3
 refuse-requires-3 c κs = search needs
 
-enum-known-judgement-2 : tie.Need-enum-known-judgement-2
-enum-known-judgement-2 c = search needs
+enum-known-answer-2 : tie.Need-enum-known-answer-2
+enum-known-answer-2 c = search needs
 
 sub-write-endings : tie.Need-sub-write-endings
 sub-write-endings c = search needs
@@ -69,7 +69,7 @@ part-write-endings-end : tie.Need-part-write-endings-end
 part-write-endings-end c =
     let start = c .before .before .before .before .before .before .before .before .before .before .before .before in
     let s = start .args .self in
-    let v = sound-entry s (length (start .args .container .now)) (sym (c .before .before .before .before .before .before .before .before .before .check-entry .ensures) ∙ c .before .before .before .before .before .before .before .enum-told .given .1) in
+    let v = accepted-entry s (length (start .args .container .now)) (sym (c .before .before .before .before .before .before .before .before .before .check-entry .ensures) ∙ c .before .before .before .before .before .before .before .enum-told .given .1) in
     let long : length (s .carry .bytes) ≡ 100 = search needs in
     let short = valid-short s (v .0) in
     omega arith
@@ -80,8 +80,8 @@ write-endings-requires c κs =
     let s = start .args .self in
     let b = start .args .container .now in
     let at-judge = c .before .before .before .before .before .before .before in
-    let v = sound-entry s (length b) (sym (c .before .before .before .before .before .before .before .before .before .before .before .check-entry .ensures) ∙ c .before .before .before .before .before .before .before .before .before .enum-told .given .1) in
-    let a = judged-accepted s b (at-judge .judge-valid .result) (at-judge .judge-valid .ensures) _ _ (c .before .before .before .before .before .judgement2 .given .1) in
+    let v = accepted-entry s (length b) (sym (c .before .before .before .before .before .before .before .before .before .before .before .check-entry .ensures) ∙ c .before .before .before .before .before .before .before .before .before .enum-told .given .1) in
+    let a = judged-accepted s b (at-judge .judge-valid .result) (at-judge .judge-valid .ensures) _ _ (c .before .before .before .before .before .answer2 .given .1) in
     ((v .1, c .before .before .before .before .before .before .before .before .if1 .left), (a .2, (rw (carry-part (s .carry)) (valid-carry s (v .0)), rw (carry-part (s .carry)) (carried-short s (v .0)))))
 
 returns-3 : tie.Need-returns-3
@@ -91,8 +91,8 @@ returns-3 c =
     let b = start .args .container .now in
     let room = start .args .room .now in
     let at-judge = c .before .before .before .before in
-    let v = sound-entry s (length b) (sym (c .before .before .before .before .before .before .before .before .check-entry .ensures) ∙ c .before .before .before .before .before .before .enum-told .given .1) in
-    let e = read-roomy s b (length room) (v .0) (v .1) (c .before .before .before .before .before .if1 .left) ∙ judged-refused s b (at-judge .judge-valid .result) (at-judge .judge-valid .ensures) _ _ (c .before .before .judgement .given .1) in
+    let v = accepted-entry s (length b) (sym (c .before .before .before .before .before .before .before .before .check-entry .ensures) ∙ c .before .before .before .before .before .before .enum-told .given .1) in
+    let e = read-roomy s b (length room) (v .0) (v .1) (c .before .before .before .before .before .if1 .left) ∙ judged-refused s b (at-judge .judge-valid .result) (at-judge .judge-valid .ensures) _ _ (c .before .before .answer .given .1) in
     (read-refused s b (length room) _ _ e (c .refuse3 .result) (c .refuse3 .ensures), room-refused s b room _ _ e)
 
 same-length : tie.Need-same-length
@@ -106,8 +106,8 @@ returns-4 c =
     let room = start .args .room .now in
     let at-judge = c .before .before .before .before .before .before .before .before .before .before .before in
     let wrote = c .before .before .before .write-endings .ensures in
-    let v = sound-entry s (length b) (sym (c .before .before .before .before .before .before .before .before .before .before .before .before .before .before .before .check-entry .ensures) ∙ c .before .before .before .before .before .before .before .before .before .before .before .before .before .enum-told .given .1) in
-    let a = judged-accepted s b (at-judge .judge-valid .result) (at-judge .judge-valid .ensures) _ _ (c .before .before .before .before .before .before .before .before .before .judgement2 .given .1) in
+    let v = accepted-entry s (length b) (sym (c .before .before .before .before .before .before .before .before .before .before .before .before .before .before .before .check-entry .ensures) ∙ c .before .before .before .before .before .before .before .before .before .before .before .before .before .enum-told .given .1) in
+    let a = judged-accepted s b (at-judge .judge-valid .result) (at-judge .judge-valid .ensures) _ _ (c .before .before .before .before .before .before .before .before .before .answer2 .given .1) in
     let e = read-roomy s b (length room) (v .0) (v .1) (c .before .before .before .before .before .before .before .before .before .before .before .before .if1 .left) ∙ a .0 in (
       read-done s b (length room) e _ (a .3) _ (wrote .0 ∙ ap length (records-part s b)) _ (a .1),
       wrote .1 ∙ ap (λ (x : List ℕ). put 0 x room) (records-part s b) ∙ room-done s b room e,
@@ -125,9 +125,9 @@ read-spec =
     refuse-requires-2
     returns-2
     judge-valid-requires
-    enum-known-judgement
+    enum-known-answer
     refuse-requires-3
-    enum-known-judgement-2
+    enum-known-answer-2
     sub-write-endings
     part-write-endings-start
     part-write-endings-end

@@ -28,7 +28,7 @@ count-responses-requires c κs = search needs
 add-requires : tie.Need-add-requires
 add-requires c κs =
     let start = c .before .before .before .before .before .before in
-    (omega arith, omega arith, rw (c .before .count-miscs .ensures) (miscs-most (start .args .kind)), rw (c .count-responses .ensures) (responses-most (start .args .kind)))
+    (omega arith, omega arith, rw (c .before .count-miscs .ensures) (miscs-most (start .args .msgtype)), rw (c .count-responses .ensures) (responses-most (start .args .msgtype)))
 
 returns : tie.Need-returns
 returns c =

@@ -35,7 +35,7 @@ returns-3 : tie.Need-returns-3
 returns-3 c =
     let s = c .before .before .before .before .before in
     let n = noCounts (s .args .grant) in
-    let m = miscBy (s .args .kind) (s .args .op) activation in
+    let m = miscBy (s .args .msgtype) (s .args .op) activation in
     let e : (not m || n) ≡ true =
     ⊎-elim
     (λ x. rw (not-false n (sym (x .1 .ensures) ∙ x .2 .left)) (or-true (not m)))

@@ -19,8 +19,8 @@ returns : tie.Need-returns
 returns c =
     let start = c .before .before .before in
     let misc = c .before .before .is-misc in
-    let e : miscBy (start .args .kind) (start .args .op) activation ≡ false = sym (misc .ensures) ∙ not-true (misc .result) (c .before .if1 .taken) in
-    c .admits .ensures ∙ ap (λ (b : Bool). not b && legalBy (formatOf (start .args .format)) (start .args .grant) (start .args .g) (start .args .self) (start .args .kind) (start .args .op)) (sym e)
+    let e : miscBy (start .args .msgtype) (start .args .op) activation ≡ false = sym (misc .ensures) ∙ not-true (misc .result) (c .before .if1 .taken) in
+    c .admits .ensures ∙ ap (λ (b : Bool). not b && legalBy (formatOf (start .args .format)) (start .args .grant) (start .args .g) (start .args .self) (start .args .msgtype) (start .args .op)) (sym e)
 
 returns-2 : tie.Need-returns-2
 returns-2 c = rw (← c .before .is-misc .ensures, c .if1 .left)

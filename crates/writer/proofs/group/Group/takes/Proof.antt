@@ -17,7 +17,7 @@ count-miscs-requires c κs = search needs
 add-if2 : tie.Need-add-if2
 add-if2 c =
     let s = c .before .before .before .before in
-    omega (arith, s .pre .0, c .before .count-miscs .ensures, miscs-most (s .args .kind))
+    omega (arith, s .pre .0, c .before .count-miscs .ensures, miscs-most (s .args .msgtype))
 
 returns-2 : tie.Need-returns-2
 returns-2 c =
@@ -30,7 +30,7 @@ count-responses-requires c κs = search needs
 add-result : tie.Need-add-result
 add-result c =
     let s = c .before .before .before .before .before .before .before in
-    omega (arith, s .pre .1, c .before .count-responses .ensures, responses-most (s .args .kind))
+    omega (arith, s .pre .1, c .before .count-responses .ensures, responses-most (s .args .msgtype))
 
 returns-3 : tie.Need-returns-3
 returns-3 c =

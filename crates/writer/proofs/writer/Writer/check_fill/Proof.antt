@@ -1,5 +1,5 @@
 -- `writer::writer::Writer::check_fill` meets its contract.
-use Rattle.writer.proofs.StateCases.{fill-faulty, fill-list}
+use Rattle.writer.proofs.StateCases.{fill-checks-refused, fill-list}
 use borrow.Author.Needs.{needs}
 use Rattle.writer.proofs.writer.Writer.check_fill.Statement.{statement}
 use Rattle.writer.proofs.writer.Writer.check_fill.Tie as tie
@@ -11,7 +11,7 @@ enum-told : tie.Need-enum-told
 enum-told c = search needs
 
 returns : tie.Need-returns
-returns c = fill-faulty (c .before .before .before .before .args .self) (c .before .before .before .before .args .list .now) (c .before .before .before .before .args .grant) (c .before .before .before .before .args .size) _ (c .before .before .check-call .ensures) _ _ (c .enum-told .given .1)
+returns c = fill-checks-refused (c .before .before .before .before .args .self) (c .before .before .before .before .args .list .now) (c .before .before .before .before .args .grant) (c .before .before .before .before .args .size) _ (c .before .before .check-call .ensures) _ _ (c .enum-told .given .1)
 
 enum-told-2 : tie.Need-enum-told-2
 enum-told-2 c = search needs
