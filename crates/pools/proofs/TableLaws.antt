@@ -1,12 +1,10 @@
--- The shape of two rows of fourteen, and their flat list element by element. Assumes nothing.
-use Prim.Native.Nat.{ℕ, zero, suc, _+_, _-_, _/_, _%_, _≤_, _<_}
+-- The shape of two rows of fourteen, and their flat list. Assumes nothing.
+use Prim.Native.Nat.{ℕ, zero, suc, _+_, _<_}
 use mathlib.Core.Path.{_≡_, refl, sym, ap, _∙_}
 use mathlib.Core.List.{List, [], _∷_, _++_, append-nil}
-use mathlib.Core.Logic.{⊎-elim}
 use native.Mathlib.Nat.{not-suc-le-zero, le-of-suc-le-suc}
 use native.Mathlib.Omega.{arith}
-use lib.ListN.{length, getD, length-append, List·getD-append}
-use lib.Seq.{getD-append-add}
+use lib.ListN.{length, getD, replicate, length-append, length-replicate}
 use mir.Val.{Val}
 use mir.Syntax.{w32}
 use denote.RattleType.{RattleType}
@@ -14,8 +12,10 @@ use denote.Array.{Array, each}
 use denote.Plain.{UInt}
 use denote.Laws.{Is}
 use denote.Shadow.{shadow}
-use Rattle.lists.proofs.Order.{lt-or-le}
-use Rattle.pools.specs.Rows.{flattened, entryOf}
+use Rattle.lists.specs.Parts.{put}
+use Rattle.lists.proofs.Fill.{put-whole}
+use Rattle.lists.proofs.PutLaws.{put-more}
+use Rattle.pools.specs.Rows.{flattened}
 
 -- two rows of fourteen
 pub record Rows (t : List (List ℕ)) : Type 0 where
@@ -47,30 +47,17 @@ rows-of t vs p =
       second = rows-long (UInt w32) 14 t (p .0) (p .1 .1) 1 (omega arith);
     }
 
--- the flat list has 28 elements
-pub length-flattened : (t : List (List ℕ)) → Rows t → length (flattened t) ≡ 28
-length-flattened t r = rw (r .two) (long (getD t 0 []) (getD t 1 []) (r .first) (r .second))
-  where
-    long : (a b : List ℕ) → length a ≡ 14 → length b ≡ 14 → length (flattened (a ∷ b ∷ [])) ≡ 28
-    long a b p q = simp (append-nil, length-append, p, q)
-
--- entry i of the flat list is entry i % 14 of row i / 14
-module _ (a b : List ℕ) (i : ℕ) (p : length a ≡ 14) where
-  flat-low : i < 14 → getD (flattened (a ∷ b ∷ [])) i 0 ≡ entryOf (a ∷ b ∷ []) (i / 14) (i % 14)
-  flat-low h =
-      let q : i / 14 ≡ 0 = omega arith in
-      let m : i % 14 ≡ i = omega arith in
-      let below : i < length a = omega arith in
-      rw (q, m) (List·getD-append a (b ++ []) 0 i below)
-
-  flat-high : 14 ≤ i → i < 28 → getD (flattened (a ∷ b ∷ [])) i 0 ≡ entryOf (a ∷ b ∷ []) (i / 14) (i % 14)
-  flat-high l h =
-      let q : i / 14 ≡ 1 = omega arith in
-      let m : i % 14 ≡ i - 14 = omega arith in
-      let e : length a + (i - 14) ≡ i = omega arith in
-      rw (q, m, append-nil b) (ap (λ (k : ℕ). getD (a ++ b) k 0) (sym e) ∙ getD-append-add a b (i - 14) 0)
-
-pub flat-at : (t : List (List ℕ)) (i : ℕ) → Rows t → i < 28 → getD (flattened t) i 0 ≡ entryOf t (i / 14) (i % 14)
-flat-at t i r h =
-    rw (r .two)
-    (⊎-elim (λ (l : i < 14). flat-low (getD t 0 []) (getD t 1 []) i (r .first) l) (λ (l : 14 ≤ i). flat-high (getD t 0 []) (getD t 1 []) i (r .first) l h) (lt-or-le i 14))
+-- two rows put in their places over zeros are the flat list
+pub flat-put : (t : List (List ℕ)) → Rows t → {d e : List ℕ} → d ≡ put 0 (getD t 0 []) (replicate 28 0) → e ≡ put 14 (getD t 1 []) d → e ≡ flattened t
+flat-put t r {d} {e} ed ee =
+    let a : List ℕ = getD t 0 [] in
+    let b : List ℕ = getD t 1 [] in
+    let la : length a ≡ 14 = r .first in
+    let lb : length b ≡ 14 = r .second in
+    let z : length (replicate {A = ℕ} 28 0) ≡ 28 = length-replicate {A = ℕ} 28 0 in
+    let both : length (a ++ b) ≡ 28 = length-append a b ∙ (let n = la in let m = lb in omega arith) in
+    let second : 14 ≡ 0 + length a = omega arith in
+    ee ∙ ap (put 14 b) ed ∙ ap (λ (n : ℕ). put n b (put 0 a (replicate 28 0))) second
+    ∙ put-more 0 a b (replicate 28 0) (omega arith)
+    ∙ put-whole (a ++ b) (replicate 28 0) (both ∙ sym z)
+    ∙ ap (λ (l : List ℕ). a ++ l) (sym (append-nil b)) ∙ sym (ap flattened (r .two))
