@@ -38,16 +38,16 @@ use reader::JudgeAnswer;
 use reader::Reader;
 use slices::byte_at;
 
-// A format, the receivers and the carries of both directions, and for each direction and pool, at 14 · direction + pool, the credits
-// held and the messages open.
+// The carries of both directions, for each direction and pool, at 14 · direction + pool, the credits held and the messages open, the
+// receivers, and a format; in this order each part lies at a multiple of sixteen bytes.
 pub struct Ledger {
-    pub format: u32,
-    pub receiver0: Receiver,
-    pub receiver1: Receiver,
     pub carry0: Carry,
     pub carry1: Carry,
     pub held: [u32; TABLE],
     pub opened: [u32; TABLE],
+    pub receiver0: Receiver,
+    pub receiver1: Receiver,
+    pub format: u32,
 }
 
 // The next ledger and the answer.
