@@ -39,7 +39,7 @@ use reader::Reader;
 use slices::byte_at;
 
 // The carries of both directions, for each direction and pool, at 14 · direction + pool, the credits held and the messages open, the
-// receivers, and a format; in this order each part lies at a multiple of sixteen bytes.
+// receivers of both directions, and a format.
 pub struct Ledger {
     pub carry0: Carry,
     pub carry1: Carry,

@@ -20,7 +20,7 @@ use container::Grant;
 use container::read_grant;
 use container::read_msgstart;
 
-// What is carried, and a format; in this order no unused bytes lie between the two.
+// What is carried, and a format.
 pub struct Reader {
     pub carry: Carry,
     pub format: u32,
