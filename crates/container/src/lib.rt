@@ -1,5 +1,6 @@
 // Container bytes: granules, protocol header and grant forms of both formats (document 01, "Container bytes").
 mod grant;
+mod idle;
 mod layout;
 
 pub use grant::Grant;
@@ -9,6 +10,7 @@ pub use grant::has_counts;
 pub use grant::is_form;
 pub use grant::keeps_reserved;
 pub use grant::read_grant;
+pub use idle::is_idle;
 pub use layout::CONTAINER;
 pub use layout::GRANULES;
 pub use layout::WIDE;

@@ -18,8 +18,10 @@ use Rattle.cause.specs.Checks.{Pass, firstFault}
 use Rattle.cause.specs.declared.Verdict.the-variants.{Accepted}
 use Rattle.cause.proofs.CheckLaws.{pass-accepted, accepted-pass, pass-append}
 use Rattle.container.specs.Layout.{Format, formatOf, msgStart, bit}
+use Rattle.container.specs.Idle.{idleFrom, idle}
 use Rattle.container.specs.Grants.{grantOf, headerGrant}
 use Rattle.container.specs.declared.grant.Grant.{Grant}
+use Rattle.container.proofs.IdleLaws.{idle-exactly}
 use Rattle.placement.specs.Cells.{cells, carryAfter, endings, startings}
 use Rattle.placement.specs.Checking.{granuleChecks, groupChecks, containerChecks}
 use Rattle.reader.specs.Reading.{carryWith, carried, stateChecks, judgeChecks, nextReader}
@@ -32,9 +34,7 @@ use Rattle.reader.proofs.LinkLaws.{judging-same}
 use Rattle.pools.specs.Pools.{capacitiesOk, allMessages, allGrants, grantsIn, grantedTo, paidTo}
 use Rattle.ledger.specs.Audit.{receiverOf, readerOf, heldOf, openOf, ledgerOk, opposite, begun, finished, granted, creditChecks, capacityChecks, auditChecks, heldAfter, openAfter, nextLedger, auditing}
 use Rattle.ledger.specs.CountingMirror.{idleEntry}
-use Rattle.ledger.specs.Idle.{idleFrom}
 use Rattle.ledger.specs.declared.ledger.Ledger.{Ledger}
-use Rattle.ledger.proofs.IdleLaws.{idle-exactly}
 use Rattle.ledger.proofs.TableSelf.{table-by}
 use Rattle.ledger.proofs.ValidLaws.{ValidDirection, ledger-valid}
 
@@ -105,7 +105,7 @@ module _ (s : Ledger) (d : ℕ) (c : List ℕ) (b : d < 2) (ok : ledgerOk s ≡ 
   valid = ledger-valid s d ok b
 
   len-none : r .carry .len ≡ 0
-  len-none = eqb-true (r .carry .len) 0 (and-left (eqb (r .carry .len) 0) (idleFrom (fm .link) c 0) e)
+  len-none = eqb-true (r .carry .len) 0 (and-left (eqb (r .carry .len) 0) (idle fm c) e)
 
   carried-none : carried r ≡ []
   carried-none = ap (λ (k : ℕ). take k (r .carry .bytes)) len-none
@@ -113,7 +113,7 @@ module _ (s : Ledger) (d : ℕ) (c : List ℕ) (b : d < 2) (ok : ledgerOk s ≡ 
   -- outside the link header the entry is the container of zeros
   same : (i : ℕ) → i < 256 → fm .link i ≡ false → getD c i 0 ≡ getD blank i 0
   same i k t =
-      idle-exactly (fm .link) c .0 (and-right (eqb (r .carry .len) 0) (idleFrom (fm .link) c 0) e) i (rw n k) t
+      idle-exactly (fm .link) c .0 (and-right (eqb (length c) 256) (idleFrom (fm .link) c 0) (and-right (eqb (r .carry .len) 0) (idle fm c) e)) i (rw n k) t
       ∙ sym (zeros-at blank (zeros-replicate 256) i)
 
   -- so it passes the reader's checks, grants nothing, and starts nothing

@@ -7,7 +7,6 @@ pub mod ValidLedgerLaws
 pub mod FreshLaws
 pub mod AcceptedLaws
 pub mod SettleLaws
-pub mod IdleLaws
 pub mod IdleTheorem
 pub mod LedgerCases
 pub mod AuditLaws

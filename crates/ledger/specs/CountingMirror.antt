@@ -8,13 +8,13 @@ use Rattle.lists.specs.Pick.{pick}
 use Rattle.cause.specs.Checks.{Check, check, firstFault, whenAccepted, passes}
 use Rattle.cause.specs.declared.Cause.the-variants.{BegunOverGranted, GrantedOverCapacity}
 use Rattle.container.specs.Layout.{formatOf}
+use Rattle.container.specs.Idle.{idle}
 use Rattle.message.specs.Charges.{charges}
 use Rattle.reader.specs.Reading.{bytesIn, carried}
 use Rattle.reader.specs.declared.carry.Carry.{Carry}
 use Rattle.pools.specs.Pools.{messageChecks, chargedTo}
 use Rattle.pools.specs.Rows.{row, nested, flattened, entryOf, rows}
 use Rattle.ledger.specs.Audit.{receiverOf, readerOf, poolsOk}
-use Rattle.ledger.specs.Idle.{idleFrom}
 use Rattle.ledger.specs.declared.ledger.Ledger.{Ledger}
 use Rattle.ledger.specs.declared.ledger.Step.{Step}
 
@@ -50,7 +50,7 @@ pooled s d = passes (firstFault (messageChecks (receiverOf s d) (carried (reader
 
 -- an idle entry: nothing is carried in its direction, and it has nothing but zeros outside the link header
 abbrev pub idleEntry : Ledger → ℕ → List ℕ → Bool
-idleEntry s d c = eqb (readerOf s d .carry .len) 0 && idleFrom (formatOf (s .format) .link) c 0
+idleEntry s d c = eqb (readerOf s d .carry .len) 0 && idle (formatOf (s .format)) c
 
 -- the ledger behind an accepted entry of direction d, by the next carry and the tables of counts
 abbrev pub entered : Ledger → ℕ → Carry → List ℕ → List ℕ → Ledger

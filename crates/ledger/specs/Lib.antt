@@ -1,7 +1,6 @@
 pub mod Entries
 pub mod Audit
 pub mod ValidLedger
-pub mod Idle
 pub mod CountingMirror
 pub mod Run
 pub mod Calls

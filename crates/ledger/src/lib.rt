@@ -1,7 +1,6 @@
 // The audit of both directions of a link: receivers, pools and the ledger (document 01, "Pools and the audit").
 mod counts;
 mod entries;
-mod idle;
 mod ledger;
 
 pub use entries::Run;

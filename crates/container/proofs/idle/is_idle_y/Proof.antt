@@ -1,12 +1,12 @@
--- `ledger::idle::is_idle_y` meets its contract.
+-- `container::idle::is_idle_y` meets its contract.
 use mathlib.Core.Path.{sym, ap, _∙_}
 use borrow.Author.Tests.{not-true, not-false}
 use Rattle.lists.specs.Parts.{zeros}
 use Rattle.lists.proofs.PartLaws.{rest-is}
-use Rattle.ledger.proofs.IdleLaws.{idle-y}
+use Rattle.container.proofs.IdleLaws.{idle-y}
 use borrow.Author.Needs.{needs}
-use Rattle.ledger.proofs.idle.is_idle_y.Statement.{statement}
-use Rattle.ledger.proofs.idle.is_idle_y.Tie as tie
+use Rattle.container.proofs.idle.is_idle_y.Statement.{statement}
+use Rattle.container.proofs.idle.is_idle_y.Tie as tie
 
 sub-is-zero : tie.Need-sub-is-zero
 sub-is-zero c = search needs

@@ -1,12 +1,12 @@
--- `ledger::idle::is_idle_x` meets its contract.
+-- `container::idle::is_idle_x` meets its contract.
 use mathlib.Core.Path.{sym, ap, _∙_}
 use borrow.Author.Tests.{not-true, not-false}
 use Rattle.lists.specs.Parts.{zeros}
 use Rattle.lists.proofs.PartLaws.{rest-is}
-use Rattle.ledger.proofs.IdleLaws.{idle-x}
+use Rattle.container.proofs.IdleLaws.{idle-x}
 use borrow.Author.Needs.{needs}
-use Rattle.ledger.proofs.idle.is_idle_x.Statement.{statement}
-use Rattle.ledger.proofs.idle.is_idle_x.Tie as tie
+use Rattle.container.proofs.idle.is_idle_x.Statement.{statement}
+use Rattle.container.proofs.idle.is_idle_x.Tie as tie
 
 sub-is-zero : tie.Need-sub-is-zero
 sub-is-zero c = search needs

@@ -1,8 +1,9 @@
-// The idle entry: nothing but zeros outside the link header.
+// The idle container: nothing but zeros outside the link header.
 ghost use mathlib.Core.Path.{_≡_};
 ghost use lib.ListN.{length};
 ghost use Rattle.container.specs.Layout.{formatOf};
-ghost use Rattle.ledger.specs.Idle.{idleFrom};
+ghost use Rattle.container.specs.Idle.{idleFrom, idle};
+use crate::layout::CONTAINER;
 use slices::is_zero;
 
 // Whether format X has zeros outside bytes 60-63, 124 and 125.
@@ -39,11 +40,13 @@ fn is_idle_y(container: &[u8]) -> bool
     is_zero(&container[246..])
 }
 
-// Whether a container has nothing but zeros outside the link header.
-pub(crate) fn is_idle(format: u32, container: &[u8]) -> bool
-    requires { ⌜ length (now container) ≡ 256 ⌝ }
-    ensures { λ r. ⌜ r ≡ idleFrom (formatOf format .link) (now (container .entry)) 0 ⌝ }
+// Whether a container has 256 bytes, and nothing but zeros outside the link header.
+pub fn is_idle(format: u32, container: &[u8]) -> bool
+    ensures { λ r. ⌜ r ≡ idle (formatOf format) (now (container .entry)) ⌝ }
 {
+    if container.len() != CONTAINER {
+        return false;
+    }
     if format == 0 {
         return is_idle_x(container);
     }

@@ -1,4 +1,4 @@
--- The idle entry byte by byte, and by the parts between the bytes of the link header. Assumes nothing.
+-- The idle container byte by byte, and by the parts between the bytes of the link header. Assumes nothing.
 use Prim.Native.Nat.{ℕ, zero, suc, _+_, _<_}
 use mathlib.Core.Path.{_≡_, refl, sym, ap, _∙_}
 use mathlib.Core.Bool.{Bool, true, false, _&&_, _||_, not}
@@ -14,8 +14,8 @@ use Rattle.lists.specs.Pick.{pick}
 use Rattle.lists.specs.Parts.{part, zeros}
 use Rattle.lists.proofs.Tests.{cases, T-true, and-left, and-right, and-both, and-assoc}
 use Rattle.lists.proofs.Tables.{below, below-at}
 use Rattle.container.specs.Layout.{linkX, linkY, formatOf}
-use Rattle.ledger.specs.Idle.{idleFrom}
+use Rattle.container.specs.Idle.{idleFrom}
 
 module _ (link : ℕ → Bool) where
   -- byte by byte
