@@ -1,17 +1,16 @@
 -- One step of a track, case by case. Assumes nothing.
 use Prim.Native.Nat.{ℕ, _+_, _-_, _≤_, _<_}
-use mathlib.Core.Path.{_≡_, sym, _∙_}
-use mathlib.Core.Bool.{Bool, true, false}
+use mathlib.Core.Path.{_≡_, refl, sym, _∙_}
+use mathlib.Core.Bool.{Bool, true, false, _&&_}
 use mathlib.Core.List.{List}
 use native.Mathlib.Omega.{arith}
 use lib.ListN.{length, take, drop}
-use lib.Dec.{ltb, leb}
 use borrow.Author.Tests.{lt-ltb, le-ltb, eq-eqb, ne-eqb}
 use Rattle.lists.specs.Pick.{pick}
 use Rattle.lists.proofs.Tests.{and-false}
 use Rattle.container.specs.Layout.{Format, start, wide, granule, bit}
 use Rattle.message.specs.Heads.{msgSize}
-use Rattle.reader.specs.TrackingMirror.{noTrack, trackOf, trackBy, trackAfter}
+use Rattle.reader.specs.TrackingMirror.{trackOf, trackBy, trackAfter}
 use Rattle.reader.specs.declared.track.Track.{Track}
 
 -- a carried message of which size and length are given
@@ -21,28 +20,36 @@ carried-whole m n e h = let z : 0 ≡ msgSize m - length m = omega arith in λ i
 pub carried-on : (m : List ℕ) (n : ℕ) → n ≡ msgSize m → _≡_ {A = Track} (record { owed = n - length m; size = n; from = 0; kept = length m }) (trackOf m)
 carried-on m n e = λ i. record { owed = e i - length m; size = e i; from = 0; kept = length m }
 
--- granule g of n bytes, where a message of k bytes starts or none
-module _ (fm : Format) (g n : ℕ) (st : Bool) (k : ℕ) (t : Track) (e : n ≡ fm .size g) where
-  pub follow-narrow : (n ≡ 20 → ⊥) → t ≡ trackBy fm g st k t
-  follow-narrow d =
-      let w : wide fm g ≡ false = ne-eqb (fm .size g) 20 (λ (z : fm .size g ≡ 20). d (e ∙ z)) in rw (w, and-false (ltb 0 (t .owed)), and-false st)
+-- whether granule g of n bytes is a wide one
+module _ (fm : Format) (g n : ℕ) (e : n ≡ fm .size g) where
+  pub is-wide : n ≡ 20 → wide fm g ≡ true
+  is-wide z = eq-eqb (fm .size g) 20 (sym e ∙ z)
 
-  module _ (z : n ≡ 20) where
-    is-wide : wide fm g ≡ true
-    is-wide = eq-eqb (fm .size g) 20 (sym e ∙ z)
+  pub is-narrow : (n ≡ 20 → ⊥) → wide fm g ≡ false
+  is-narrow d = ne-eqb (fm .size g) 20 (λ (z : fm .size g ≡ 20). d (e ∙ z))
 
-    pub follow-on : 0 < t .owed → (r : Track)
-        → r ≡ pick (leb (t .owed) 20) noTrack (record { owed = t .owed - 20; size = t .size; from = t .from; kept = t .kept })
-        → r ≡ trackBy fm g st k t
-    follow-on h r q = q ∙ rw (lt-ltb 0 (t .owed) h, is-wide)
+-- a message that goes on decides before one that starts
+on-first : (w st : Bool) (a b t : Track) → pick w a t ≡ pick w a (pick (st && w) b t)
+on-first true st a b t = refl
+on-first false st a b t = rw (and-false st)
 
-    pub follow-start : t .owed ≤ 0 → st ≡ true → (r : Track)
-        → r ≡ pick (leb k 20) noTrack (record { owed = k - 20; size = k; from = g; kept = 0 })
-        → r ≡ trackBy fm g st k t
-    follow-start h s r q = q ∙ rw (le-ltb 0 (t .owed) h, s, is-wide)
+-- granule g, where a message of k bytes starts or none
+module _ (fm : Format) (g : ℕ) (st : Bool) (k : ℕ) (t : Track) where
+  pub follow-on : 0 < t .owed → (r : Track)
+      → r ≡ pick (wide fm g) (record { owed = t .owed - 20; size = t .size; from = t .from; kept = t .kept }) t
+      → r ≡ trackBy fm g st k t
+  follow-on h r q =
+      q
+      ∙ on-first (wide fm g) st (record { owed = t .owed - 20; size = t .size; from = t .from; kept = t .kept }) (record { owed = k - 20; size = k; from = g; kept = 0 }) t
+      ∙ rw (lt-ltb 0 (t .owed) h)
 
-    pub follow-idle : t .owed ≤ 0 → st ≡ false → t ≡ trackBy fm g st k t
-    follow-idle h s = rw (le-ltb 0 (t .owed) h, s)
+  pub follow-start : t .owed ≤ 0 → st ≡ true → (r : Track)
+      → r ≡ pick (wide fm g) (record { owed = k - 20; size = k; from = g; kept = 0 }) t
+      → r ≡ trackBy fm g st k t
+  follow-start h s r q = q ∙ rw (le-ltb 0 (t .owed) h, s)
+
+  pub follow-idle : t .owed ≤ 0 → st ≡ false → t ≡ trackBy fm g st k t
+  follow-idle h s = rw (le-ltb 0 (t .owed) h, s)
 
 -- granule g of a container, where b says whether a message starts
 module _ (fm : Format) (c : List ℕ) (starts g : ℕ) (t : Track) {b : Bool} (eb : b ≡ bit starts g) where

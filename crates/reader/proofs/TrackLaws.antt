@@ -19,7 +19,7 @@ use Rattle.message.proofs.HeadLaws.{size-append, size-of, size-most}
 use Rattle.placement.specs.Cells.{Cell, owed, cellAt, whole, after, ended, carryOk}
 use Rattle.placement.proofs.Keeps.{progress}
 use Rattle.placement.proofs.FirmLaws.{Firm, carry-firm, firm-left}
-use Rattle.reader.specs.TrackingMirror.{noTrack, trackOf, trackAfter, trackAt, gathered, gatheredMessage, inProgress, endedBy, Ending, Begun}
+use Rattle.reader.specs.TrackingMirror.{trackOf, trackAfter, trackAt, gathered, gatheredMessage, inProgress, endedBy, Ending, Begun}
 use Rattle.reader.specs.declared.track.Track.{Track}
 
 -- the track of a message in progress of which p was read, when granule g is reached
@@ -40,11 +40,12 @@ gathered-next fm c m t g h =
     let e : t .from + (g - t .from) ≡ g = omega arith in
     rw (k, e) (sym (append-assoc (take (t .kept) m) (gathered fm c (t .from) (g - t .from)) (pick (wide fm g) (granule fm g c) [])))
 
-no-track : (fm : Format) (c m : List ℕ) (g : ℕ) → Follows fm c m g noTrack []
-no-track fm c m g = record {
-  owes = refl;
-  from-below = omega arith;
-  kept-within = omega arith;
+-- nothing is owed of a message that is whole
+nothing-owed : (fm : Format) (c m : List ℕ) (g : ℕ) (t : Track) → t .owed ≡ 0 → t .from ≤ g → t .kept ≤ length m → Follows fm c m g t []
+nothing-owed fm c m g t z b k = record {
+  owes = z;
+  from-below = b;
+  kept-within = k;
   sized = λ h. absurd (omega arith);
   bytes = λ h. absurd (omega arith);
   begun = λ h. absurd (omega arith);
@@ -109,7 +110,10 @@ module _ (f : ℕ) (c m : List ℕ) (g : ℕ) (t : Track) (p : List ℕ) (b : g 
         Goal = Follows fm c m (g + 1) (trackAfter fm c (msgStart fm c) g t) (after fm g e p)
 
         last : leb (t .owed) 20 ≡ true → Goal
-        last x = rw (o, on-cell, on-whole, x) (no-track fm c m (g + 1))
+        last x =
+            let k = leb-true (t .owed) 20 x in
+            let j = h .from-below in
+            rw (o, on-cell, on-whole, x) (nothing-owed fm c m (g + 1) _ (omega arith) (omega arith) (h .kept-within))
 
         more : leb (t .owed) 20 ≡ false → Goal
         more x =
@@ -145,7 +149,9 @@ module _ (f : ℕ) (c m : List ℕ) (g : ℕ) (t : Track) (p : List ℕ) (b : g 
         long = length-here ∙ eqb-true (fm .size g) 20 w
 
         last : leb (msgSize bytes-here) 20 ≡ true → Goal
-        last x = rw (o, off-cell, s, long, x) (no-track fm c m (g + 1))
+        last x =
+            let k = leb-true (msgSize bytes-here) 20 x in
+            rw (o, off-cell, s, long, x) (nothing-owed fm c m (g + 1) _ (omega arith) (omega arith) (omega arith))
 
         more : leb (msgSize bytes-here) 20 ≡ false → Goal
         more x =

@@ -30,12 +30,12 @@ noTrack = record { owed = 0; size = 0; from = 0; kept = 0 }
 abbrev pub trackOf : List ℕ → Track
 trackOf m = record { owed = owed m; size = msgSize m; from = 0; kept = length m }
 
--- after granule g, where a message of n bytes starts or none: less is owed of a message that goes on, a longer message that starts is taken up, and what is whole is let go
+-- after granule g, where a message of n bytes starts or none: less is owed of a message that goes on, and a message that starts is taken up; of one that is whole nothing is owed
 abbrev pub trackBy : Format → ℕ → Bool → ℕ → Track → Track
 trackBy fm g st n t =
     pick (ltb 0 (t .owed) && wide fm g)
-    (pick (leb (t .owed) 20) noTrack (record { owed = t .owed - 20; size = t .size; from = t .from; kept = t .kept }))
-    (pick (st && wide fm g) (pick (leb n 20) noTrack (record { owed = n - 20; size = n; from = g; kept = 0 })) t)
+    (record { owed = t .owed - 20; size = t .size; from = t .from; kept = t .kept })
+    (pick (st && wide fm g) (record { owed = n - 20; size = n; from = g; kept = 0 }) t)
 
 -- after granule g of a container
 unfoldable pub trackAfter : Format → List ℕ → ℕ → ℕ → Track → Track

@@ -58,7 +58,7 @@ pub(crate) fn gather_message(
     ensures { λ _. ⌜ now (out .exit) ≡ put at (gatheredMessage (formatOf format) (now (container .entry)) (now (carry .entry)) track g) (now (out .entry)) ⌝ }
 {
     let kept = track.kept;
-    let from = track.from;
+    let from = track.from as u8;
     copy_into(out, at, &carry[0..kept]);
     gather_granules(format, container, from, g - from, out, at + kept);
 }

@@ -1,10 +1,9 @@
 // The message in progress, by numbers.
 ghost use mathlib.Core.Path.{_≡_};
 ghost use Prim.Native.Nat.{_<_, _-_};
-ghost use lib.Dec.{leb};
 ghost use Rattle.lists.specs.Pick.{pick};
 ghost use lib.ListN.{length};
-ghost use Rattle.container.specs.Layout.{formatOf};
+ghost use Rattle.container.specs.Layout.{formatOf, wide};
 ghost use Rattle.reader.specs.TrackingMirror.{noTrack, trackOf, trackBy, trackAfter};
 use container::WIDE;
 use container::locate_granule;
@@ -12,12 +11,23 @@ use container::measure_granule;
 use container::starts_at;
 use message::measure_message;
 
-// What is owed of it, its size, the granule from which on it is read, and how many bytes of the old carry belong to it.
+// What is owed of it, its size, the granule from which on it is read, and how many bytes of the old carry belong to it. No message is in
+// progress where nothing is owed.
 pub struct Track {
     pub owed: usize,
     pub size: usize,
-    pub from: u8,
+    pub from: usize,
     pub kept: usize,
+}
+
+// What is left of so many bytes behind a wide granule, 0 where they end in it.
+fn count_rest(bytes: usize) -> usize
+    ensures { λ r. ⌜ r ≡ bytes - 20 ⌝ }
+{
+    if bytes < WIDE {
+        return 0;
+    }
+    bytes - WIDE
 }
 
 impl Track {
@@ -55,32 +65,32 @@ impl Track {
         }
     }
 
-    // One granule less is owed.
-    fn advance(self) -> Track
-        ensures { λ r. ⌜ r ≡ pick (leb (self .owed) 20) noTrack (record { owed = self .owed - 20; size = self .size; from = self .from; kept = self .kept }) ⌝ }
+    // Granule g of the message in progress is read, if it is a wide one.
+    fn advance(self, format: u32, g: u8) -> Track
+        ensures { λ r. ⌜ r ≡ pick (wide (formatOf format) g) (record { owed = self .owed - 20; size = self .size; from = self .from; kept = self .kept }) self ⌝ }
     {
-        if self.owed <= WIDE {
-            return Track::none();
+        if measure_granule(format, g) != WIDE {
+            return self;
         }
         Track {
-            owed: self.owed - WIDE,
+            owed: count_rest(self.owed),
             size: self.size,
             from: self.from,
             kept: self.kept,
         }
     }
 
-    // A message of this size starts in granule g.
-    fn start(g: u8, size: usize) -> Track
-        ensures { λ r. ⌜ r ≡ pick (leb size 20) noTrack (record { owed = size - 20; size = size; from = g; kept = 0 }) ⌝ }
+    // A message of this size starts in granule g, and may go on if that is a wide one.
+    fn start(self, format: u32, g: u8, size: usize) -> Track
+        ensures { λ r. ⌜ r ≡ pick (wide (formatOf format) g) (record { owed = size - 20; size = size; from = g; kept = 0 }) self ⌝ }
     {
-        if size <= WIDE {
-            return Track::none();
+        if measure_granule(format, g) != WIDE {
+            return self;
         }
         Track {
-            owed: size - WIDE,
+            owed: count_rest(size),
             size: size,
-            from: g,
+            from: g as usize,
             kept: 0,
         }
     }
@@ -89,14 +99,11 @@ impl Track {
     pub fn follow(self, format: u32, g: u8, start: bool, size: usize) -> Track
         ensures { λ r. ⌜ r ≡ trackBy (formatOf format) g start size self ⌝ }
     {
-        if measure_granule(format, g) != WIDE {
-            return self;
-        }
         if 0 < self.owed {
-            return self.advance();
+            return self.advance(format, g);
         }
         if start {
-            return Track::start(g, size);
+            return self.start(format, g, size);
         }
         self
     }

@@ -13,6 +13,9 @@ use Rattle.reader.proofs.gather.gather_message.Tie as tie
 abbrev behind : tie.Start → List ℕ
 behind s = gathered (formatOf (s .args .format)) (s .args .container .now) (s .args .track .from) (s .args .g - s .args .track .from)
 
+cast-from : tie.Need-cast-from
+cast-from c = search needs
+
 sub-copy-into : tie.Need-sub-copy-into
 sub-copy-into c = search needs
 
@@ -33,7 +36,7 @@ add-gather-granules c = search needs
 
 gather-granules-requires : tie.Need-gather-granules-requires
 gather-granules-requires c κs =
-    let s = c .before .before .before .before .before .before .before .before .before in (
+    let s = c .before .before .before .before .before .before .before .before .before .before in (
       (s .pre .0 .0, omega arith),
       behind-fits (s .args .carry .now) (s .args .track .kept) (s .args .at) (behind s) (s .args .out .now) (s .pre .0 .1) (s .pre .1 .1) _ (c .before .before .before .copy-into .ensures),
     )
@@ -43,13 +46,14 @@ same-length c = search needs
 
 returns : tie.Need-returns
 returns c =
-    let s = c .before .before .before .before .before .before .before .before .before .before .before .before in
+    let s = c .before .before .before .before .before .before .before .before .before .before .before .before .before in
     both-put (s .args .carry .now) (s .args .track .kept) (s .args .at) (behind s) (s .args .out .now) (s .pre .0 .1) (s .pre .1 .1) _ (c .before .before .before .before .before .before .copy-into .ensures) _ (c .before .before .gather-granules .ensures)
 
 pub gather-message-spec : {M : Type 1} → statement M
 gather-message-spec =
     tie.close
     (tie.spec
+    cast-from
     sub-copy-into
     part-copy-into-start
     part-copy-into-end

@@ -1,21 +1,26 @@
 -- `reader::track::Track::start` meets its contract.
-use mathlib.Core.Path.{_∙_}
-use borrow.Author.Tests.{le-leb, lt-leb}
+use Rattle.container.specs.Layout.{formatOf}
+use Rattle.reader.proofs.TrackCases.{is-wide, is-narrow}
 use borrow.Author.Needs.{needs}
 use Rattle.reader.proofs.track.Track.start.Statement.{statement}
 use Rattle.reader.proofs.track.Track.start.Tie as tie
 
-none-requires : tie.Need-none-requires
-none-requires c κs = search needs
+measure-granule-requires : tie.Need-measure-granule-requires
+measure-granule-requires c κs = search needs
 
 returns : tie.Need-returns
-returns c = c .none .ensures ∙ rw (le-leb _ _ (c .before .if1 .taken))
+returns c =
+    let start = c .before .before in
+    rw (is-narrow (formatOf (start .args .format)) (start .args .g) _ (c .before .measure-granule .ensures) (c .if1 .taken))
 
-sub-t4 : tie.Need-sub-t4
-sub-t4 c = search needs
+count-rest-requires : tie.Need-count-rest-requires
+count-rest-requires c κs = search needs
 
 returns-2 : tie.Need-returns-2
-returns-2 c = rw (lt-leb _ _ (c .if1 .left))
+returns-2 c =
+    let width = c .before in
+    let start = width .before .before in
+    rw (is-wide (formatOf (start .args .format)) (start .args .g) _ (width .before .measure-granule .ensures) (width .if1 .left), c .count-rest .ensures)
 
 pub start-spec : {M : Type 1} → statement M
-start-spec = tie.close (tie.spec none-requires returns sub-t4 returns-2)
+start-spec = tie.close (tie.spec measure-granule-requires returns count-rest-requires returns-2)
