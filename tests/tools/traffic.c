@@ -21,15 +21,15 @@ void traffic_open(struct traffic *t, const uint32_t numbers[NUMBERS]) {
 }
 
 /* What a container may still do, and how full it is to be. */
-struct books {
+struct limits {
     const struct plain_receiver *receiver, *granted; /* who takes its messages, and who is paid by its grants */
     unsigned credit[POOLS], room[POOLS];             /* what messages may still pay, and what may still be granted */
     const struct profile *profile;
     int idle;
 };
 
-static struct books open_books(const struct plain_ledger *l, unsigned d, const struct profile *profile) {
-    struct books b = {.receiver = &l->receiver[d], .granted = &l->receiver[1 - d], .profile = profile};
+static struct limits read_limits(const struct plain_ledger *l, unsigned d, const struct profile *profile) {
+    struct limits b = {.receiver = &l->receiver[d], .granted = &l->receiver[1 - d], .profile = profile};
     for (unsigned p = 0; p < POOLS; p++) {
         b.credit[p] = l->held[d][p];
         b.room[p] = l->receiver[1 - d].capacity[p] - l->held[1 - d][p] - l->open[1 - d][p];
@@ -39,14 +39,14 @@ static struct books open_books(const struct plain_ledger *l, unsigned d, const s
 }
 
 /* A count for a pool, mostly all that it has room for. */
-static uint8_t make_count(struct books *b, unsigned pool) {
+static uint8_t make_count(struct limits *b, unsigned pool) {
     unsigned most = b->room[pool] < 255 ? b->room[pool] : 255, count = draw(4) ? most : draw(most + 1);
     b->room[pool] -= count;
     return (uint8_t)count;
 }
 
 /* A grant form that the receiver it pays has pools and room for. */
-static void make_form(struct books *b, uint8_t form[5]) {
+static void make_form(struct limits *b, uint8_t form[5]) {
     unsigned shared = draw(2), plane = shared ? 0 : draw(2) ? 0 : draw(b->granted->planes);
     form[0] = form_start(shared, plane);
     for (unsigned i = 0; i < 4; i++) {
@@ -56,7 +56,7 @@ static void make_form(struct books *b, uint8_t form[5]) {
 }
 
 /* Whether the messages' receiver has the pools of a message, and credits for it are held. */
-static int affordable(const struct books *b, const uint8_t *m) {
+static int affordable(const struct limits *b, const uint8_t *m) {
     unsigned pools[2], n = plain_charges(m, pools);
     if (plain_payable(b->receiver, m) != 0)
         return 0;
@@ -67,7 +67,7 @@ static int affordable(const struct books *b, const uint8_t *m) {
 }
 
 /* Takes what a message pays, and gives a CrdtGrant its grant. */
-static void enter(struct books *b, uint8_t *m) {
+static void enter(struct limits *b, uint8_t *m) {
     unsigned pools[2], n = plain_charges(m, pools);
     for (unsigned i = 0; i < n; i++)
         b->credit[pools[i]]--;
@@ -77,7 +77,7 @@ static void enter(struct books *b, uint8_t *m) {
 
 /* Chooses a message that may start at granule g and be paid. */
 static size_t choose(void *chooser, const struct filling *f, unsigned g, uint8_t *m) {
-    struct books *b = chooser;
+    struct limits *b = chooser;
     if (b->idle || draw(100) < b->profile->rest)
         return 0;
     for (unsigned i = 0; i < TRIES; i++) {
@@ -93,7 +93,7 @@ static size_t choose(void *chooser, const struct filling *f, unsigned g, uint8_t
 
 void traffic_next(struct traffic *t, unsigned d, const struct profile *profile, uint8_t *c) {
     struct filling f = {.format = t->ledger.format};
-    struct books b = open_books(&t->ledger, d, profile);
+    struct limits b = read_limits(&t->ledger, d, profile);
     uint8_t form[5] = {0};
     uint64_t place;
     memset(c, 0, CONTAINER);

@@ -41,9 +41,9 @@ module _ (held opened paid capacities : List ℕ) where
   abbrev kept : ℕ → Bool
   kept p = eqb (getD opened p 0) (getD paid p 0) && leb (getD held p 0 + getD opened p 0) (getD capacities p 0)
 
-  pub book-tests : Tests (rowsOk held opened paid capacities) kept
+  pub row-tests : Tests (rowsOk held opened paid capacities) kept
   unfolding rowsOk
-  book-tests = record { none = λ p. refl; more = λ k p. refl }
+  row-tests = record { none = λ p. refl; more = λ k p. refl }
 
   -- the test as the code makes it: open against paid first
   pub unpaid : (p : ℕ) {s : Bool} → s ≡ eqb (getD opened p 0) (getD paid p 0) → not s ≡ true → false ≡ kept p

@@ -145,7 +145,7 @@ fn damage_configuration(random: &mut Random, numbers: &mut [u32]) {
 }
 
 /// What an entry's sender and receiver may still do.
-struct Books {
+struct Limits {
     receiver: Receiver,
     other: Receiver,
     held: [u64; POOLS],
@@ -156,7 +156,7 @@ struct Books {
 /// A container that keeps the rules, with messages that have credits and grants that have slots, most of the time.
 fn entry(random: &mut Random, ledger: &Ledger, own: usize, sloppy: usize) -> [u8; CONTAINER] {
     let opposite = 1 - own;
-    let mut books = Books {
+    let mut limits = Limits {
         receiver: ledger.receivers[own],
         other: ledger.receivers[opposite],
         held: [0; POOLS],
@@ -164,20 +164,20 @@ fn entry(random: &mut Random, ledger: &Ledger, own: usize, sloppy: usize) -> [u8
         sloppy,
     };
     for pool in 0..POOLS {
-        books.held[pool] = ledger.held(own, pool);
+        limits.held[pool] = ledger.held(own, pool);
         let taken = ledger.held(opposite, pool) + ledger.open(opposite, pool);
-        books.room[pool] = u64::from(books.other.capacities[pool]) - taken;
+        limits.room[pool] = u64::from(limits.other.capacities[pool]) - taken;
     }
     let format: Format = ledger.format;
-    let grant = if random.once_in(4) { Grant::default() } else { books.grant(random) };
+    let grant = if random.once_in(4) { Grant::default() } else { limits.grant(random) };
     let kinds = make::palette(random);
     let carry = ledger.carries[own];
     make::container(random, format, &carry, grant, |random, legal| {
-        books.message(random, &make::chosen_beside(&grant, &kinds, legal))
+        limits.message(random, &make::chosen_beside(&grant, &kinds, legal))
     })
 }
 
-impl Books {
+impl Limits {
     /// A grant that has slots, most of the time.
     fn grant(&mut self, random: &mut Random) -> Grant {
         if random.once_in(self.sloppy) {

@@ -31,7 +31,8 @@ fn beginnings(format: u32) -> impl Iterator<Item = [u8; CONTAINER]> {
 /// The fresh reader first, then those that carry a message.
 pub fn readers(format: u32) -> Vec<Reader> {
     let fresh = Reader::fresh(format).reader;
-    let carrying = beginnings(format).map(|container| fresh.judge(&container).reader).filter(|reader| reader.carry.len > 0);
+    let carrying =
+        beginnings(format).map(|container| fresh.judge(&container).reader).filter(|reader| reader.carry.len > 0);
     once(fresh).chain(carrying).collect()
 }
 

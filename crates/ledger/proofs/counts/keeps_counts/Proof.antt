@@ -7,7 +7,7 @@ use native.Mathlib.Omega.{arith}
 use lib.ListN.{getD}
 use Rattle.ledger.specs.CountingMirror.{rowsOk}
 use Rattle.pools.proofs.PoolLoops.{tests-stop, tests-go-on, tests-end}
-use Rattle.ledger.proofs.CountLaws.{book-tests, unpaid, paid-fits}
+use Rattle.ledger.proofs.CountLaws.{row-tests, unpaid, paid-fits}
 use Rattle.ledger.proofs.counts.keeps_counts.Statement.{statement}
 use Rattle.ledger.proofs.counts.keeps_counts.Tie as tie
 
@@ -49,7 +49,7 @@ returns c =
     let turn = c .before .before .before in
     let at-loop = turn .before in
     let args = at-loop .before .args in
-    tests-stop (book-tests (getD (args .t1) (args .direction) []) (getD (args .t2) (args .direction) []) (args .t4) (args .t5)) (at-loop .loop .p) (turn .loop-test .taken) (at-loop .loop .inv .1) (unpaid (getD (args .t1) (args .direction) []) (getD (args .t2) (args .direction) []) (args .t4) (args .t5) (at-loop .loop .p) (c .before .equal .ensures) (c .if1 .taken)) refl
+    tests-stop (row-tests (getD (args .t1) (args .direction) []) (getD (args .t2) (args .direction) []) (args .t4) (args .t5)) (at-loop .loop .p) (turn .loop-test .taken) (at-loop .loop .inv .1) (unpaid (getD (args .t1) (args .direction) []) (getD (args .t2) (args .direction) []) (args .t4) (args .t5) (at-loop .loop .p) (c .before .equal .ensures) (c .if1 .taken)) refl
 
 mul-t17-2 : tie.Need-mul-t17-2 Inv-loop μ-loop
 mul-t17-2 c = omega arith
@@ -78,7 +78,7 @@ returns-2 c =
     let turn = same .before .before .before in
     let at-loop = turn .before in
     let args = at-loop .before .args in
-    tests-stop (book-tests (getD (args .t1) (args .direction) []) (getD (args .t2) (args .direction) []) (args .t4) (args .t5)) (at-loop .loop .p) (turn .loop-test .taken) (at-loop .loop .inv .1) (paid-fits (getD (args .t1) (args .direction) []) (getD (args .t2) (args .direction) []) (args .t4) (args .t5) (at-loop .loop .p) (same .before .equal .ensures) (same .if1 .left) (c .before .fit-together .ensures)) (c .if2 .taken)
+    tests-stop (row-tests (getD (args .t1) (args .direction) []) (getD (args .t2) (args .direction) []) (args .t4) (args .t5)) (at-loop .loop .p) (turn .loop-test .taken) (at-loop .loop .inv .1) (paid-fits (getD (args .t1) (args .direction) []) (getD (args .t2) (args .direction) []) (args .t4) (args .t5) (at-loop .loop .p) (same .before .equal .ensures) (same .if1 .left) (c .before .fit-together .ensures)) (c .if2 .taken)
 
 add-p : tie.Need-add-p Inv-loop μ-loop
 add-p c = omega arith
@@ -93,14 +93,14 @@ loop-again c =
     let at-loop = turn .before in
     let args = at-loop .before .args in (
       omega arith,
-      tests-go-on (book-tests (getD (args .t1) (args .direction) []) (getD (args .t2) (args .direction) []) (args .t4) (args .t5)) (at-loop .loop .p) (turn .loop-test .taken) (at-loop .loop .inv .1) (paid-fits (getD (args .t1) (args .direction) []) (getD (args .t2) (args .direction) []) (args .t4) (args .t5) (at-loop .loop .p) (same .before .equal .ensures) (same .if1 .left) (c .before .fit-together .ensures)) (c .if2 .left),
+      tests-go-on (row-tests (getD (args .t1) (args .direction) []) (getD (args .t2) (args .direction) []) (args .t4) (args .t5)) (at-loop .loop .p) (turn .loop-test .taken) (at-loop .loop .inv .1) (paid-fits (getD (args .t1) (args .direction) []) (getD (args .t2) (args .direction) []) (args .t4) (args .t5) (at-loop .loop .p) (same .before .equal .ensures) (same .if1 .left) (c .before .fit-together .ensures)) (c .if2 .left),
     )
 
 returns-3 : tie.Need-returns-3 Inv-loop μ-loop
 returns-3 c =
     let at-loop = c .before in
     let args = at-loop .before .args in
-    tests-end (book-tests (getD (args .t1) (args .direction) []) (getD (args .t2) (args .direction) []) (args .t4) (args .t5)) (at-loop .loop .p) (c .loop-test .left) ∙ sym (at-loop .loop .inv .1)
+    tests-end (row-tests (getD (args .t1) (args .direction) []) (getD (args .t2) (args .direction) []) (args .t4) (args .t5)) (at-loop .loop .p) (c .loop-test .left) ∙ sym (at-loop .loop .inv .1)
 
 pub keeps-counts-spec : {M : Type 1} → statement M
 keeps-counts-spec =
