@@ -11,6 +11,6 @@ unfoldable pub idleFrom : (ℕ → Bool) → List ℕ → ℕ → Bool
 idleFrom link [] i = true
 idleFrom link (b ∷ c) i = (link i || eqb b 0) && idleFrom link c (i + 1)
 
--- a container of 256 bytes is idle
+-- an idle container: 256 bytes, and nothing but zeros outside the link header
 abbrev pub idle : Format → List ℕ → Bool
 idle fm c = eqb (length c) 256 && idleFrom (fm .link) c 0
