@@ -4,21 +4,14 @@ use mathlib.Core.Path.{_≡_, refl, sym, _∙_}
 use mathlib.Core.Bool.{Bool, true, false, _&&_}
 use mathlib.Core.List.{List}
 use native.Mathlib.Omega.{arith}
-use lib.ListN.{length, take, drop}
+use lib.ListN.{take, drop}
 use borrow.Author.Tests.{lt-ltb, le-ltb, eq-eqb, ne-eqb}
 use Rattle.lists.specs.Pick.{pick}
 use Rattle.lists.proofs.Tests.{and-false}
 use Rattle.container.specs.Layout.{Format, start, wide, granule, bit}
 use Rattle.message.specs.Heads.{msgSize}
-use Rattle.reader.specs.TrackingMirror.{trackOf, trackBy, trackAfter}
+use Rattle.reader.specs.TrackingMirror.{trackBy, trackAfter}
 use Rattle.reader.specs.declared.track.Track.{Track}
-
--- a carried message of which size and length are given
-pub carried-whole : (m : List ℕ) (n : ℕ) → n ≡ msgSize m → n < length m → _≡_ {A = Track} (record { owed = 0; size = n; from = 0; kept = length m }) (trackOf m)
-carried-whole m n e h = let z : 0 ≡ msgSize m - length m = omega arith in λ i. record { owed = z i; size = e i; from = 0; kept = length m }
-
-pub carried-on : (m : List ℕ) (n : ℕ) → n ≡ msgSize m → _≡_ {A = Track} (record { owed = n - length m; size = n; from = 0; kept = length m }) (trackOf m)
-carried-on m n e = λ i. record { owed = e i - length m; size = e i; from = 0; kept = length m }
 
 -- whether granule g of n bytes is a wide one
 module _ (fm : Format) (g n : ℕ) (e : n ≡ fm .size g) where

@@ -20,14 +20,14 @@ pub struct Track {
     pub kept: usize,
 }
 
-// What is left of so many bytes behind a wide granule, 0 where they end in it.
-fn count_rest(bytes: usize) -> usize
-    ensures { λ r. ⌜ r ≡ bytes - 20 ⌝ }
+// What is left of so many bytes when some more are read, 0 where none is left.
+fn count_rest(bytes: usize, read: usize) -> usize
+    ensures { λ r. ⌜ r ≡ bytes - read ⌝ }
 {
-    if bytes < WIDE {
+    if bytes < read {
         return 0;
     }
-    bytes - WIDE
+    bytes - read
 }
 
 impl Track {
@@ -49,16 +49,8 @@ impl Track {
     {
         let size = measure_message(carry);
         let kept = carry.len();
-        if size < kept {
-            return Track {
-                owed: 0,
-                size: size,
-                from: 0,
-                kept: kept,
-            };
-        }
         Track {
-            owed: size - kept,
+            owed: count_rest(size, kept),
             size: size,
             from: 0,
             kept: kept,
@@ -73,7 +65,7 @@ impl Track {
             return self;
         }
         Track {
-            owed: count_rest(self.owed),
+            owed: count_rest(self.owed, WIDE),
             size: self.size,
             from: self.from,
             kept: self.kept,
@@ -88,7 +80,7 @@ impl Track {
             return self;
         }
         Track {
-            owed: count_rest(size),
+            owed: count_rest(size, WIDE),
             size: size,
             from: g as usize,
             kept: 0,

@@ -1,5 +1,4 @@
 -- `reader::track::Track::carried` meets its contract.
-use Rattle.reader.proofs.TrackCases.{carried-whole, carried-on}
 use borrow.Author.Needs.{needs}
 use Rattle.reader.proofs.track.Track.carried.Statement.{statement}
 use Rattle.reader.proofs.track.Track.carried.Tie as tie
@@ -7,11 +6,11 @@ use Rattle.reader.proofs.track.Track.carried.Tie as tie
 measure-message-requires : tie.Need-measure-message-requires
 measure-message-requires c κs = search needs
 
-returns : tie.Need-returns
-returns c = carried-whole (c .before .before .before .args .carry .now) _ (c .before .measure-message .ensures) (c .if1 .taken)
+count-rest-requires : tie.Need-count-rest-requires
+count-rest-requires c κs = search needs
 
-returns-2 : tie.Need-returns-2
-returns-2 c = carried-on (c .before .before .before .args .carry .now) _ (c .before .measure-message .ensures)
+returns : tie.Need-returns
+returns c = rw (c .count-rest .ensures, c .before .measure-message .ensures)
 
 pub carried-spec : {M : Type 1} → statement M
-carried-spec = tie.close (tie.spec measure-message-requires returns returns-2)
+carried-spec = tie.close (tie.spec measure-message-requires count-rest-requires returns)
