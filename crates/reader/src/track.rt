@@ -20,7 +20,7 @@ pub struct Track {
     pub kept: usize,
 }
 
-// What is left of so many bytes when some more are read, 0 where none is left.
+// What is left of so many bytes when some are read, 0 where none is left.
 fn count_rest(bytes: usize, read: usize) -> usize
     ensures { λ r. ⌜ r ≡ bytes - read ⌝ }
 {
