@@ -8,7 +8,7 @@
 #include "../tools/traffic.h"
 #include "../tools/vectors.h"
 
-enum { BYTES = 65536, RUN = 24, JUDGED = 200000, LAST_CAUSE = 19 };
+enum { BYTES = 65536, RUN = 24, JUDGED = 200000, LAST_CAUSE = 21 };
 
 static const char heads[] = "name\tverdict\tlog";
 

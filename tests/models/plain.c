@@ -4,6 +4,9 @@
 #include "layout.h"
 #include "plain.h"
 
+/* The causes of a message and of a grant whose pools are missing, and the place of the header where the place is a granule. */
+enum { MISSING_POOL = 14, MISSING_GRANT_POOL = 21, HEADER_PLACE = 12 };
+
 struct marks {
     int populated, responses, misc, activation;
 };
@@ -154,17 +157,18 @@ unsigned plain_charges(const uint8_t *m, unsigned pools[2]) {
     }
 }
 
-uint32_t plain_payable(const struct plain_receiver *r, const uint8_t *m) {
+int plain_payable(const struct plain_receiver *r, const uint8_t *m) {
     unsigned type = m[0] % 16, shared = m[0] / 16 % 2, plane = m[0] / 32;
-    int request = type == REQ_S || type == REQ_L, data = type == DATA_S || type == DATA_L;
-    int push = type == WR_REQ_DATA_S || type == WR_REQ_DATA_L;
-    if ((request || push) && plane >= r->planes)
-        return refuse(14, FIRST_PLANE + plane);
-    if (data && !shared && !plain_has_pool(r, DEDICATED_0))
-        return refuse(14, DEDICATED_0);
-    if (push && (!r->push || (m[1] % 2 == 0 && !plain_has_pool(r, DEDICATED_1))))
-        return refuse(14, DEDICATED_1);
-    return 0;
+    switch (type) {
+    case REQ_S: case REQ_L:
+        return plane < r->planes;
+    case DATA_S: case DATA_L:
+        return shared || plain_has_pool(r, DEDICATED_0);
+    case WR_REQ_DATA_S: case WR_REQ_DATA_L:
+        return plane < r->planes && r->push && (m[1] % 2 || plain_has_pool(r, DEDICATED_1));
+    default:
+        return 1;
+    }
 }
 
 /* Counts what a message pays. */
@@ -174,16 +178,10 @@ static void count_charges(const uint8_t *m, unsigned counts[POOLS]) {
         counts[pools[i]]++;
 }
 
-/* Cause 14 of a grant form, by the receiver that it pays. */
-static uint32_t grantable(const struct plain_receiver *r, const uint8_t form[5]) {
+/* Whether a grant form finds its plane, whatever its counts, and a pool for a DAT count that is not zero. */
+static int grantable(const struct plain_receiver *r, const uint8_t form[5]) {
     unsigned shc = form[0] % 2, rp = form[0] / 2, dat = form[4];
-    if (shc)
-        return 0;
-    if (rp >= r->planes)
-        return refuse(14, FIRST_PLANE + rp);
-    if (dat != 0 && (!r->push || rp > 1))
-        return refuse(14, rp == 0 ? DEDICATED_0 : DEDICATED_1);
-    return 0;
+    return shc || (rp < r->planes && (dat == 0 || (r->push && rp <= 1)));
 }
 
 /* Counts what a grant form gives. */
@@ -201,33 +199,32 @@ static uint32_t begin_messages(const struct plain_receiver *r, unsigned starts, 
         const uint8_t *m = c + granule_start(g);
         if (!(starts >> g & 1))
             continue;
-        uint32_t answer = plain_payable(r, m);
-        if (answer != 0)
-            return answer;
+        if (!plain_payable(r, m))
+            return refuse(MISSING_POOL, g);
         count_charges(m, begun);
     }
     return 0;
 }
 
-/* Judges one grant form by 14 and counts what it gives. */
-static uint32_t give(const struct plain_receiver *r, const uint8_t form[5], unsigned granted[POOLS]) {
-    uint32_t answer = grantable(r, form);
-    if (answer == 0)
-        count_grant(form, granted);
-    return answer;
+/* Judges the grant form of a place by 21 and counts what it gives. */
+static uint32_t give(const struct plain_receiver *r, unsigned place, const uint8_t form[5], unsigned granted[POOLS]) {
+    if (!grantable(r, form))
+        return refuse(MISSING_GRANT_POOL, place);
+    count_grant(form, granted);
+    return 0;
 }
 
-/* Judges the header's grant and then the CrdtGrants by 14 and counts what they give. */
+/* Judges the header's grant and then the CrdtGrants by 21 and counts what they give. */
 static uint32_t give_grants(const struct plain_receiver *r, uint32_t format, const uint8_t *c, unsigned granted[POOLS]) {
     unsigned starts = start_bits(format, c);
     uint8_t form[5];
     for (unsigned i = 0; i < 5; i++)
         form[i] = header(format, c, 2 + i);
-    uint32_t answer = give(r, form, granted);
+    uint32_t answer = give(r, HEADER_PLACE, form, granted);
     for (unsigned g = 0; g < GRANULES && answer == 0; g++) {
         const uint8_t *m = c + granule_start(g);
         if ((starts >> g & 1) && m[0] % 16 == MISC_U && m[1] == CRDT_GRANT)
-            answer = give(r, m + FORM, granted);
+            answer = give(r, g, m + FORM, granted);
     }
     return answer;
 }
@@ -331,7 +328,7 @@ static int pools_valid(const struct plain_ledger *l, unsigned d) {
 static int direction_valid(const struct plain_ledger *l, unsigned d) {
     if (!receiver_valid(&l->receiver[d]) || !carry_valid(&l->carry[d]))
         return 0;
-    if (l->carry[d].len > 0 && plain_payable(&l->receiver[d], l->carry[d].bytes) != 0)
+    if (l->carry[d].len > 0 && !plain_payable(&l->receiver[d], l->carry[d].bytes))
         return 0;
     return pools_valid(l, d);
 }

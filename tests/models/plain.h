@@ -100,8 +100,8 @@ static inline unsigned plain_grant_pool(uint8_t form_start, unsigned i) {
 /* The pools that a well-headed message pays one credit of; answers how many. */
 unsigned plain_charges(const uint8_t *message, unsigned pools[2]);
 
-/* 0, or the cause 14 of a well-headed message as cause * 65,536 + pool. */
-uint32_t plain_payable(const struct plain_receiver *, const uint8_t *message);
+/* Whether a well-headed message finds its pools, its plane even where shared credit pays, and push if it is a push message. */
+int plain_payable(const struct plain_receiver *, const uint8_t *message);
 
 /* The ask of c2c_feed. */
 uint32_t plain_feed(uint32_t format, uint32_t *feed, size_t feed_len, const uint8_t *responses, size_t responses_len,

@@ -58,7 +58,7 @@ static void make_form(struct limits *b, uint8_t form[5]) {
 /* Whether the messages' receiver has the pools of a message, and credits for it are held. */
 static int affordable(const struct limits *b, const uint8_t *m) {
     unsigned pools[2], n = plain_charges(m, pools);
-    if (plain_payable(b->receiver, m) != 0)
+    if (!plain_payable(b->receiver, m))
         return 0;
     for (unsigned i = 0; i < n; i++)
         if (b->credit[pools[i]] == 0)

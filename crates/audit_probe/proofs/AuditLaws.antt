@@ -1,5 +1,5 @@
 -- The run from the ledger of numbers, and its numbers. Assumes nothing.
-use Prim.Native.Nat.{ℕ, _≤_}
+use Prim.Native.Nat.{ℕ, _<_}
 use mathlib.Core.Path.{_≡_, refl, sym, ap, _∙_}
 use mathlib.Core.Bool.{Bool, true, false}
 use mathlib.Core.List.{List}
@@ -85,5 +85,5 @@ module _ (l e : List ℕ) (o : Created) (q : o ≡ newLedgerFrom l) where
   report-accepted d p r w z = ap (λ (x : Run). reported (x .ledger) d p) z ∙ report-by d p Accepted w
 
 -- the number of a refusal's cause is small
-pub number-low : (x : Reported) (k : Cause) (p : ℕ) {n : ℕ} → x ≡ report.Refused k p → n ≡ causeNumber k → n ≤ 19
-number-low x k p w e = rw e (number-most k)
+pub number-low : (x : Reported) (k : Cause) (p : ℕ) {n : ℕ} → x ≡ report.Refused k p → n ≡ causeNumber k → n < 256
+number-low x k p w e = let m = number-most k in omega arith

@@ -28,12 +28,17 @@ use Rattle.cause.specs.declared.Cause.the-variants.{
   BrokenRecord,
   TooLong,
   InvalidState,
+  MissingGrantPool,
 }
 
--- the causes by number; InvalidState stands where a number is no cause's
+-- what stands where a number is no cause's
+abbrev none : Cause
+none = InvalidState
+
+-- the causes by number
 causes : List Cause
 causes =
-    InvalidState
+    none
     ∷ ContainerLength
     ∷ RoomTooSmall
     ∷ ReservedBitSet
@@ -53,10 +58,12 @@ causes =
     ∷ BrokenRecord
     ∷ TooLong
     ∷ InvalidState
+    ∷ none
+    ∷ MissingGrantPool
     ∷ []
 
 numbered : ℕ → Cause
-numbered n = getD causes n InvalidState
+numbered n = getD causes n none
 
 numbered-back : (c : Cause) → numbered (causeNumber c) ≡ c
 unfolding numbered causes
@@ -79,13 +86,14 @@ numbered-back GrantedOverCapacity = refl
 numbered-back BrokenRecord = refl
 numbered-back TooLong = refl
 numbered-back InvalidState = refl
+numbered-back MissingGrantPool = refl
 
 -- two causes with one number are one
 pub same-number : (a b : Cause) → causeNumber a ≡ causeNumber b → a ≡ b
 same-number a b e = sym (numbered-back a) ∙ ap numbered e ∙ numbered-back b
 
--- a number at which no other cause stands is InvalidState's
-last-only : (c : Cause) → numbered (causeNumber c) ≡ InvalidState → causeNumber c ≡ causeNumber InvalidState
+-- a number at which no other cause stands is that of InvalidState
+last-only : (c : Cause) → numbered (causeNumber c) ≡ none → causeNumber c ≡ causeNumber none
 last-only c e = ap causeNumber (sym (numbered-back c) ∙ e)
 
 -- 20 is retired: no cause has it
@@ -93,12 +101,12 @@ pub retired : (c : Cause) → causeNumber c ≡ 20 → ⊥
 unfolding numbered causes
 retired c e = let n = last-only c (ap numbered e) in omega arith
 
--- no number is over 19
-pub number-most : (c : Cause) → causeNumber c ≤ 19
+-- no number is over 21
+pub number-most : (c : Cause) → causeNumber c ≤ 21
 unfolding numbered causes
 number-most c =
     ⊎-elim (λ (h : causeNumber c < length causes). omega arith)
-    (λ (h : length causes ≤ causeNumber c). let n = last-only c (List·getD-eq-default causes InvalidState h) in omega arith) (lt-or-le (causeNumber c) (length causes))
+    (λ (h : length causes ≤ causeNumber c). let n = last-only c (List·getD-eq-default causes none h) in omega arith) (lt-or-le (causeNumber c) (length causes))
 
 -- and none is 0
 pub number-some : (c : Cause) → 0 < causeNumber c

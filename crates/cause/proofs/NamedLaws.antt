@@ -10,18 +10,15 @@ use Rattle.cause.specs.declared.Cause.{Cause}
 use Rattle.cause.proofs.CauseLaws.{same-number}
 use Rattle.cause.proofs.FirstLaws as first
 use Rattle.cause.proofs.FirstLaws.{First}
-use Rattle.cause.specs.Order.{rank, Named, NamedBy, None, NoneBy}
+use Rattle.cause.specs.Order.{rank, Named, None}
 
 -- the rank of a cause
 abbrev pub turnOf : Cause → ℕ → ℕ
 turnOf k p = rank (causeNumber k) p
 
--- a family by number and place, and one by number, turn and place, with their ranks
+-- a family by number and place, with its ranks
 abbrev pub Numbered : (ℕ → ℕ → Type 0) → ℕ → ℕ → ℕ → Type 0
 Numbered F r j p = (rank j p ≡ r) × F j p
-
-abbrev pub NumberedBy : (ℕ → ℕ → ℕ → Type 0) → ℕ → ℕ → ℕ → Type 0
-NumberedBy F r j p = (t : ℕ) × (rank j t ≡ r) × F j t p
 
 -- no fault of a family by rank, cause and place has a rank below r
 abbrev pub Clean : (ℕ → Cause → ℕ → Type 0) → ℕ → Type 0
@@ -73,13 +70,3 @@ module _ {R : ℕ → Cause → ℕ → Type 0} {F : ℕ → ℕ → Type 0} (sa
 
   pub none-named : first.None R ↔ None F
   none-named = (λ n j q y. none-numbered same .0 n (rank j q) j q (refl, y), λ n. none-numbered same .1 (λ r j p y. n j p (y .1)))
-
-module _ {R : ℕ → Cause → ℕ → Type 0} {F : ℕ → ℕ → ℕ → Type 0} (same : Same R (NumberedBy F)) where
-  pub first-named-by : (k : Cause) (p : ℕ) → First R k p ↔ NamedBy F k p
-  first-named-by k p = (
-    λ w. let f = first-numbered same k p .0 w in (f .1 .0, f .1 .2, λ j u q y l. let e = f .1 .1 in f .2 (rank j u) j q (u, refl, y) (omega arith)),
-    λ w. first-numbered same k p .1 (rank (causeNumber k) (w .0), (w .0, refl, w .1), λ s j q y l. let e = y .1 in w .2 j (y .0) q (y .2) (omega arith)),
-  )
-
-  pub none-named-by : first.None R ↔ NoneBy F
-  none-named-by = (λ n j t q y. none-numbered same .0 n (rank j t) j q (t, refl, y), λ n. none-numbered same .1 (λ r j p y. n j (y .0) p (y .2)))

@@ -1,4 +1,4 @@
--- Causes and places (document 01): the number of each cause; 20 is retired (document 02, K11).
+-- Causes and places (document 01): the number of each cause; 20 is retired (document 02, K11), 21 is new (K1).
 use Prim.Native.Nat.{ℕ}
 use Rattle.cause.specs.declared.Cause.{Cause}
 use Rattle.cause.specs.declared.Cause.the-variants.{
@@ -21,6 +21,7 @@ use Rattle.cause.specs.declared.Cause.the-variants.{
   BrokenRecord,
   TooLong,
   InvalidState,
+  MissingGrantPool,
 }
 
 abbrev pub causeNumber : Cause → ℕ
@@ -48,7 +49,7 @@ causeNumber SecondMisc = 11
 causeNumber TooManyResponses = 12
 -- header grant beside Activation
 causeNumber GrantBesideActivation = 13
--- missing pool, or push message without push
+-- of a message: missing pool, or push message without push
 causeNumber MissingPool = 14
 -- begun over granted, granted over capacity + finished
 causeNumber BegunOverGranted = 15
@@ -59,3 +60,9 @@ causeNumber BrokenRecord = 17
 causeNumber TooLong = 18
 -- format, direction, configuration or state not valid
 causeNumber InvalidState = 19
+-- of a grant: missing pool
+causeNumber MissingGrantPool = 21
+
+-- the place of the header where the place is a granule (document 02, K1): "the granule of the CrdtGrant or 12 for the header"
+abbrev pub headerPlace : ℕ
+headerPlace = 12

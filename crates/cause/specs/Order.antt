@@ -3,10 +3,12 @@
 use Prim.Native.Nat.{ℕ, _+_, _*_, _<_}
 use mathlib.Core.List.{List, [], _∷_}
 use lib.ListN.{getD}
-use Rattle.cause.specs.Causes.{causeNumber}
+use lib.Dec.{eqb}
+use Rattle.lists.specs.Pick.{pick}
+use Rattle.cause.specs.Causes.{causeNumber, headerPlace}
 use Rattle.cause.specs.declared.Cause.{Cause}
 
--- the ranks of causes 0 to 19, of which 0 is none, at granule, group, pool, turn (14) or byte offset (17) p
+-- the ranks of causes 0 to 21, of which 0 and 20 are none, at granule, group, pool or byte offset (17) p
 abbrev pub ranks : ℕ → List ℕ
 ranks p =
     0
@@ -18,10 +20,13 @@ ranks p =
     ∷ (300 + 10 * p + 0) ∷ (300 + 10 * p + 1) ∷ (300 + 10 * p + 2)
     -- 13: "then 13"
     ∷ 400
-    -- 14, 15, 16: "The audit goes on: 14 by ..; then 15, then 16, lowest pool first"
+    -- 14, 15, 16: "The audit goes on: 14 by started messages in granule order ..; then 15, then 16, lowest pool first"
     ∷ (500 + p) ∷ (600 + p) ∷ (700 + p)
     -- 17, 18, 19
     ∷ (800 + p) ∷ 5 ∷ 1
+    ∷ 0
+    -- 21: behind the messages "then header grant", whose place is 12, "then CrdtGrants", upwards
+    ∷ pick (eqb p headerPlace) 520 (530 + p)
     ∷ []
 
 abbrev pub rank : ℕ → ℕ → ℕ
@@ -31,13 +36,6 @@ rank k p = getD (ranks p) k 0
 abbrev pub Named : (ℕ → ℕ → Type 0) → Cause → ℕ → Type 0
 Named F k p = F (causeNumber k) p × ((j q : ℕ) → F j q → rank j q < rank (causeNumber k) p → ⊥)
 
--- the same of a family by number, turn and place
-abbrev pub NamedBy : (ℕ → ℕ → ℕ → Type 0) → Cause → ℕ → Type 0
-NamedBy F k p = (t : ℕ) × F (causeNumber k) t p × ((j u q : ℕ) → F j u q → rank j u < rank (causeNumber k) t → ⊥)
-
 -- there is no fault
 abbrev pub None : (ℕ → ℕ → Type 0) → Type 0
 None F = (j q : ℕ) → F j q → ⊥
-
-abbrev pub NoneBy : (ℕ → ℕ → ℕ → Type 0) → Type 0
-NoneBy F = (j t q : ℕ) → F j t q → ⊥

@@ -1,4 +1,4 @@
-// The causes of refusal and their numbers (document 01, "Causes and places"; 20 is retired by document 02, K11).
+// The causes of refusal and their numbers (document 01, "Causes and places"; of document 02, K11 retires 20 and K1 adds 21).
 ghost use mathlib.Core.Path.{_≡_};
 ghost use Rattle.cause.specs.Causes.{causeNumber};
 
@@ -23,7 +23,11 @@ pub enum Cause {
     BrokenRecord,
     TooLong,
     InvalidState,
+    MissingGrantPool,
 }
+
+// The place of the header where the place is a granule.
+pub const HEADER_PLACE: u64 = 12;
 
 // What a list of checks finds: nothing, or the first cause with its place.
 pub enum Verdict {
@@ -55,5 +59,6 @@ pub fn number_cause(cause: Cause) -> u32
         Cause::BrokenRecord => 17,
         Cause::TooLong => 18,
         Cause::InvalidState => 19,
+        Cause::MissingGrantPool => 21,
     }
 }

@@ -10,7 +10,7 @@ use Rattle.placement.specs.Cells.{cells, carryAfter, startings}
 use Rattle.placement.specs.Checking.{granuleChecks, groupChecks, containerChecks}
 use Rattle.reader.specs.Reading.{readerWith, stateChecks, nextReader}
 use Rattle.reader.specs.declared.reader.Reader.{Reader}
-use Rattle.pools.specs.Pools.{allMessages, allGrants, paidTo, grantedTo, grantedBy, grantsIn}
+use Rattle.pools.specs.Pools.{eachGranule, paidTo, grantedTo, grantedBy, grantsIn}
 use Rattle.history.specs.Trace.{whole, shorter}
 use Rattle.history.specs.Link.{Direction, direction0, direction1}
 use Rattle.history.specs.History.{stateAfter, Measure, total}
@@ -27,7 +27,7 @@ nothing-given p =
 
 -- what an idle container leaves, gives and begins
 idle-reads : (d : Direction) → link .reads d (readerWith 0 []) idle ≡ true
-unfolding cells carryAfter startings granuleChecks groupChecks containerChecks stateChecks allMessages allGrants grantsIn
+unfolding cells carryAfter startings granuleChecks groupChecks containerChecks stateChecks eachGranule grantsIn
 idle-reads direction0 = refl
 idle-reads direction1 = refl
 

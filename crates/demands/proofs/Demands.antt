@@ -9,7 +9,7 @@ use Rattle.demands.specs.Tap.{linkOf}
 use Rattle.demands.specs.Demand1.{Demand1}
 use Rattle.demands.specs.Demand3.{Demand3}
 use Rattle.demands.proofs.Refusals.{untouched}
-use Rattle.demands.proofs.TableLaws.{table}
+use Rattle.demands.proofs.TableLaws.{table, missing-pools}
 use Rattle.demands.proofs.HostLaws.{hosts}
 use Rattle.demands.proofs.LinkRuleLaws.{link-rules}
 use Rattle.demands.proofs.Simulation.{closed, reports}
@@ -18,6 +18,7 @@ use Rattle.demands.proofs.LogTap.{log-demand}
 pub demand1 : Demand1
 demand1 = record {
   table = table;
+  missing-pools = missing-pools;
   untouched = untouched;
   run-follows = run-follows;
   run-only = run-only;

@@ -9,7 +9,7 @@ use Rattle.reader.specs.Reading.{stateChecks, readChecks, nextReader, records, 
 use Rattle.writer.specs.Plan.{plan, cursorLast}
 use Rattle.writer.specs.Laying.{setAll, layCells, containerOf, filled, owesAfter, usedOf}
 use Rattle.writer.specs.Filling.{callChecks, fillFault, filling, fillBytes}
-use Rattle.pools.specs.Pools.{capacitiesOk, allMessages, allGrants, paidTo, grantedTo, grantsIn}
+use Rattle.pools.specs.Pools.{capacitiesOk, eachGranule, paidTo, grantedTo, grantsIn}
 use Rattle.ledger.specs.Audit.{poolsOk, begun, finished, granted, creditChecks, capacityChecks, auditChecks, nextLedger, auditing}
 use Rattle.pools.specs.Rows.{row}
 use Rattle.feeder.specs.Due.{foundAt}
@@ -25,7 +25,7 @@ use Rattle.demands.specs.Service.{Reached}
 use Rattle.demands.specs.Interleaving.{startsBetween, startsLast, Orders}
 
 pub marked : Marked
-unfolding number readNumber faultFrom listFault cells carryAfter endings startings granuleChecks groupChecks containerChecks stateChecks readChecks nextReader records reading plan setAll layCells containerOf filled callChecks fillFault fillBytes capacitiesOk allMessages allGrants paidTo grantedTo grantsIn poolsOk begun finished granted creditChecks capacityChecks auditChecks row nextLedger auditing
+unfolding number readNumber faultFrom listFault cells carryAfter endings startings granuleChecks groupChecks containerChecks stateChecks readChecks nextReader records reading plan setAll layCells containerOf filled callChecks fillFault fillBytes capacitiesOk eachGranule paidTo grantedTo grantsIn poolsOk begun finished granted creditChecks capacityChecks auditChecks row nextLedger auditing
 marked = record {
   m1-x = refl;
   m1-y = refl;
@@ -46,7 +46,7 @@ marked = record {
 
 -- short examples of each cause
 pub pinned : Pinned
-unfolding number readNumber faultFrom listFault cells carryAfter endings startings granuleChecks groupChecks containerChecks stateChecks readChecks nextReader records reading plan cursorLast owesAfter usedOf callChecks fillFault filling capacitiesOk allMessages allGrants paidTo grantedTo grantsIn poolsOk begun finished granted creditChecks capacityChecks auditChecks row nextLedger auditing
+unfolding number readNumber faultFrom listFault cells carryAfter endings startings granuleChecks groupChecks containerChecks stateChecks readChecks nextReader records reading plan cursorLast owesAfter usedOf callChecks fillFault filling capacitiesOk eachGranule paidTo grantedTo grantsIn poolsOk begun finished granted creditChecks capacityChecks auditChecks row nextLedger auditing
 pinned = record {
   format = refl;
   short = refl;
@@ -80,15 +80,22 @@ pinned = record {
   grant = refl;
   direction = refl;
   plane-3 = refl;
+  plane-3-g3 = refl;
   plane-3-shared = refl;
   data-no-push = refl;
   push-no-push = refl;
   push-shared = refl;
   push-one-plane = refl;
   grant-plane = refl;
+  crdt-plane = refl;
   grant-dat-0 = refl;
   grant-dat-1 = refl;
   message-first = refl;
+  header-first = refl;
+  own-0 = refl;
+  own-1 = refl;
+  opposite-0 = refl;
+  opposite-1 = refl;
   no-rsp = refl;
   no-snp = refl;
   over-snp = refl;
@@ -107,7 +114,7 @@ beneath = record { under-g5 = refl; under-g5-read = refl; in-x = refl; never-ear
 
 -- the orders in which a start and two grants pass
 pub orders : Orders
-unfolding cells carryAfter endings startings granuleChecks groupChecks containerChecks stateChecks nextReader capacitiesOk allMessages allGrants paidTo grantedTo grantsIn poolsOk begun finished granted creditChecks capacityChecks auditChecks row nextLedger auditing
+unfolding cells carryAfter endings startings granuleChecks groupChecks containerChecks stateChecks nextReader capacitiesOk eachGranule paidTo grantedTo grantsIn poolsOk begun finished granted creditChecks capacityChecks auditChecks row nextLedger auditing
 orders = record {
   same-containers = same;
   between = record { accepted = (refl, (refl, (refl, tt))); held = refl; opened = refl; carried = refl };

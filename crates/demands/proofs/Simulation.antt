@@ -13,10 +13,12 @@ use Rattle.lists.proofs.Tests.{never-both, not-true-false, same-test, and-left,
 use Rattle.cause.specs.Checks.{Pass, firstFault, whenAccepted, passes}
 use Rattle.cause.specs.declared.Verdict.{Verdict}
 use Rattle.cause.specs.declared.Verdict.the-variants.{Accepted, Refused}
+use Rattle.container.specs.Layout.{formatOf}
+use Rattle.container.specs.Grants.{headerGrant}
 use Rattle.message.specs.Charges.{charges}
 use Rattle.reader.specs.Reading.{carried, readerOk, readerWith, nextReader}
 use Rattle.reader.specs.declared.reader.Reader.{Reader}
-use Rattle.pools.specs.Pools.{receiverOk, messageChecks, allMessages, allGrants, chargedTo, paidTo, grantedTo}
+use Rattle.pools.specs.Pools.{receiverOk, payable, messageChecks, grantChecks, chargedTo, paidTo, grantedTo}
 use Rattle.ledger.specs.Audit.{receiverOf, readerOf, heldOf, openOf, ledgerOk, configured, freshLedger, begun, finished, granted, auditChecks, nextLedger, auditing, reported}
 use Rattle.ledger.specs.Audit as audit
 use Rattle.pools.specs.declared.receiver.Receiver.{Receiver}
@@ -37,7 +39,7 @@ use Rattle.history.specs.Demand.{Closed}
 use Rattle.history.proofs.Below.{below-fits, fits-below, below-equal, equal-below}
 use Rattle.history.proofs.Calls.{Simulates}
 use Rattle.history.proofs.Demand.{audit-closes}
-use Rattle.ledger.specs.Entries.{startsIn, endsIn}
+use Rattle.ledger.specs.Entries.{cellsIn, startsIn, endsIn}
 use Rattle.demands.specs.Tap.{grantsFrom}
 use Rattle.demands.specs.Tap.{receiverFor, linkOf, heldIn, openIn, auditorOf}
 use Rattle.demands.proofs.TapLaws.{reads-by, by-reads, passes-accepted, receiver-valid, lawful}
@@ -147,19 +149,19 @@ module _ (f : ℕ) (a b : Receiver) (v : configured f a b ≡ true) where
         state : K .stateOk d (m .states d) ≡ true
         state =
             subst (λ (s : Reader). K .stateOk d s ≡ true) (r .states d)
-            (and-both (readerOk (readerOf l (numberOf d))) (passes (firstFault (messageChecks (receiverFor a b d) (carried (readerOf l (numberOf d)))))) (w .reader)
-            (subst (λ (x : Receiver). passes (firstFault (messageChecks x (carried (readerOf l (numberOf d))))) ≡ true) (r .receivers d) (w .carry)))
+            (and-both (readerOk (readerOf l (numberOf d))) (payable (receiverFor a b d) (carried (readerOf l (numberOf d)))) (w .reader)
+            (subst (λ (x : Receiver). payable x (carried (readerOf l (numberOf d))) ≡ true) (r .receivers d) (w .carry)))
 
     direction-back : (d : Direction) → directionOk K m d ≡ true → ValidDirection l (numberOf d)
     direction-back d e =
         let s = and-left (K .stateOk d (m .states d)) behind e in
         let q = and-right (K .stateOk d (m .states d)) behind e in
         let t = subst (λ (x : Reader). K .stateOk d x ≡ true) (sym (r .states d)) s in
-        let fourteen = passes (firstFault (messageChecks (receiverFor a b d) (carried (readerOf l (numberOf d))))) in
+        let fourteen = payable (receiverFor a b d) (carried (readerOf l (numberOf d))) in
         record {
           receiver = subst (λ (x : Receiver). receiverOk x ≡ true) (sym (r .receivers d)) (receiver-valid f a b v d);
           reader = and-left (readerOk (readerOf l (numberOf d))) fourteen t;
-          carry = subst (λ (x : Receiver). passes (firstFault (messageChecks x (carried (readerOf l (numberOf d))))) ≡ true) (sym (r .receivers d)) (and-right (readerOk (readerOf l (numberOf d))) fourteen t);
+          carry = subst (λ (x : Receiver). payable x (carried (readerOf l (numberOf d))) ≡ true) (sym (r .receivers d)) (and-right (readerOk (readerOf l (numberOf d))) fourteen t);
           unfinished = λ p h. open-is d p h ∙ below-equal 14 (m .unfinished d) (K .carried (m .states d)) (and-right fits same q) p h ∙ ap (λ (s : Reader). chargedTo p (charges (carried s))) (sym (r .states d));
           room = λ p h.
               let x = below-fits 14 (λ p. m .held d p + m .unfinished d p) (K .capacity d) (and-left fits same q) p h in
@@ -184,15 +186,14 @@ module _ (f : ℕ) (a b : Receiver) (v : configured f a b ≡ true) where
       s = readerOf l n
 
       reads-forth : AcceptedEntry l n c → K .reads d (m .states d) c ≡ true
-      unfolding begun granted
       reads-forth x =
           subst (λ (q : Reader). K .reads d q c ≡ true) (r .states d)
           (by-reads (receiverFor a b d) (receiverFor a b (opposite d)) s c
           (record {
             long = x .long;
             state = x .reads;
-            messages = subst (λ (q : Receiver). Pass (allMessages q (startsIn s c))) (r .receivers d) (x .messages);
-            grants = subst (λ (q : Receiver). Pass (allGrants q (grantsFrom s c))) (ap (receiverOf l) (sym (number-opposite d)) ∙ r .receivers (opposite d)) (x .grants);
+            messages = subst (λ (q : Receiver). Pass (messageChecks q (cellsIn s c))) (r .receivers d) (x .messages);
+            grants = subst (λ (q : Receiver). Pass (grantChecks q (headerGrant (formatOf (s .format)) c) (cellsIn s c))) (ap (receiverOf l) (sym (number-opposite d)) ∙ r .receivers (opposite d)) (x .grants);
           }))
 
       -- what begins, ends and is granted in a related state
@@ -241,8 +242,8 @@ module _ (f : ℕ) (a b : Receiver) (v : configured f a b ≡ true) where
             ledger = valid-ledger l (direction-back direction0 (and-left (directionOk K m direction0) (directionOk K m direction1) v0)) (direction-back direction1 (and-right (directionOk K m direction0) (directionOk K m direction1) v0));
             long = rules .long;
             reads = rules .state;
-            messages = subst (λ (q : Receiver). Pass (allMessages q (startsIn s c))) (sym (r .receivers d)) (rules .messages);
-            grants = subst (λ (q : Receiver). Pass (allGrants q (grantsFrom s c))) (sym (ap (receiverOf l) (sym e) ∙ r .receivers (opposite d))) (rules .grants);
+            messages = subst (λ (q : Receiver). Pass (messageChecks q (cellsIn s c))) (sym (r .receivers d)) (rules .messages);
+            grants = subst (λ (q : Receiver). Pass (grantChecks q (headerGrant (formatOf (s .format)) c) (cellsIn s c))) (sym (ap (receiverOf l) (sym e) ∙ r .receivers (opposite d))) (rules .grants);
             covered = λ p h.
                 let y = below-fits 14 (creditsPaid K m d c) (m .held d) (and-left covers room v2) p h in
                 let z = begins-is p in let w = held-is d p h in omega arith;

@@ -8,6 +8,7 @@ use mathlib.Core.Logic.{_↔_}
 use lib.ListN.{length}
 use Rattle.lists.specs.Parts.{IsBytes}
 use Rattle.cause.specs.declared.Cause.{Cause}
+use Rattle.cause.specs.declared.Cause.the-variants.{MissingPool, MissingGrantPool}
 use Rattle.cause.specs.declared.Verdict.the-variants.{Accepted, Refused}
 use Rattle.container.specs.Layout.{formatOf, msgStart}
 use Rattle.container.specs.Grants.{headerGrant}
@@ -41,11 +42,11 @@ use Rattle.feeder.specs.declared.feed.Feed.{Feed}
 use Rattle.feeder.specs.declared.feed.Answer.the-variants as ask
 use Rattle.feeder.specs.declared.feed.Step.{Step}
 use Rattle.reader.specs.Faults.{ReadFault, JudgeFault}
-use Rattle.ledger.specs.Faults.{AuditFault, FreshFault, ReportFault}
+use Rattle.ledger.specs.Faults.{AuditFault, MessageLacksPool, GrantLacksPool, FreshFault, ReportFault}
 use Rattle.writer.specs.Faults.{ListFault, FillFault}
 use Rattle.demands.specs.Faults.{FormatFault}
 use Rattle.demands.specs.Hosts.{Hosts}
-use Rattle.cause.specs.Order.{Named, NamedBy, None, NoneBy}
+use Rattle.cause.specs.Order.{Named, None}
 
 -- "A refusal changes no state and no byte of lent memory"
 pub record Untouched : Type 0 where
@@ -75,8 +76,8 @@ pub record TableOfCauses : Type 0 where
   pub judge-accepted : (s : Reader) (c : List ℕ)
       → (judging s c .answer ≡ judge.Accepted (headerGrant (formatOf (s .format)) c) (msgStart (formatOf (s .format)) c)) ↔ None (JudgeFault s c)
   -- the audit, with any ledger, any direction number and any container
-  pub audit-refused : (s : Ledger) (d : ℕ) (c : List ℕ) (k : Cause) (p : ℕ) → (auditing s d c .answer ≡ Refused k p) ↔ NamedBy (AuditFault s d c) k p
-  pub audit-accepted : (s : Ledger) (d : ℕ) (c : List ℕ) → (auditing s d c .answer ≡ Accepted) ↔ NoneBy (AuditFault s d c)
+  pub audit-refused : (s : Ledger) (d : ℕ) (c : List ℕ) (k : Cause) (p : ℕ) → (auditing s d c .answer ≡ Refused k p) ↔ Named (AuditFault s d c) k p
+  pub audit-accepted : (s : Ledger) (d : ℕ) (c : List ℕ) → (auditing s d c .answer ≡ Accepted) ↔ None (AuditFault s d c)
   -- the writer, with any list of bytes, any grant and any container
   pub fill-refused : (w : Writer) (l : List ℕ) (n : Grant) (bytes : ℕ) → IsBytes l → (k : Cause) (p : ℕ)
       → (filling w l n bytes .answer ≡ fill.Refused k p) ↔ Named (FillFault w l n bytes) k p
@@ -98,9 +99,18 @@ pub record TableOfCauses : Type 0 where
   pub report-counted : (s : Ledger) (d p : ℕ)
       → (reported s d p ≡ report.Accepted (record { 0 = heldOf s d p }) (record { 0 = openOf s d p })) ↔ None (ReportFault s d p)
 
+-- "a message and a grant come from different sides of the books" (document 02, K1): whose pool is missing, by the cause of a refusal
+pub record MissingPools : Type 0 where
+  -- 14 at p: the message which starts in granule p lacks a pool of the receiver of its own direction
+  pub of-message : (s : Ledger) (d : ℕ) (c : List ℕ) (p : ℕ) → auditing s d c .answer ≡ Refused MissingPool p → MessageLacksPool s d c p
+  -- 21 at p: the header's grant (p is 12) or the CrdtGrant in granule p lacks a pool of the opposite direction's receiver
+  pub of-grant : (s : Ledger) (d : ℕ) (c : List ℕ) (p : ℕ) → auditing s d c .answer ≡ Refused MissingGrantPool p → GrantLacksPool s d c p
+
 pub record Demand1 : Type 0 where
   -- "A bad one is refused with a cause and a place from the fixed table."
   pub table : TableOfCauses
+  -- a message that lacks a pool is told from a grant that does
+  pub missing-pools : MissingPools
   -- "A refusal changes no state and no byte of lent memory"
   pub untouched : Untouched
   -- a run over at most so many entries, with any ledger and any bytes: the only outcome that its rules allow; with a refusal the ledger is

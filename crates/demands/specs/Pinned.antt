@@ -1,5 +1,5 @@
--- Cause and place of short examples, in the paper's numbers, as one statement about the definitions: each reading cause, the pools that 14,
--- 15 and 16 name, and the writer's.
+-- Cause and place of short examples, in the paper's numbers, as one statement about the definitions: each reading cause, the granules that
+-- 14 and 21 name, the pools that 15 and 16 name, and the writer's.
 use Prim.Native.Nat.{ℕ}
 use mathlib.Core.Path.{_≡_}
 use mathlib.Core.Bool.{Bool, true, false}
@@ -26,9 +26,13 @@ y bs = readTold (reading (readerWith 1 []) (withBytes bs) 352 .answer)
 abbrev pub bare : ℕ → Bool → Receiver
 bare n push = record { planes = n; push = push; capacities = replicate 14 0 }
 
--- the audit's answer to one entry in X, with two such receivers
+-- the audit's answer to one entry in X, with these receivers of directions 0 and 1
+abbrev pub auditedBetween : Receiver → Receiver → ℕ → List (ℕ × ℕ) → List (ℕ × ℕ)
+auditedBetween a b d bs = answersTo (freshLedger 0 a b) (call d bs ∷ [])
+
+-- the same with two receivers alike
 abbrev pub audited : ℕ → Bool → ℕ → List (ℕ × ℕ) → List (ℕ × ℕ)
-audited n push d bs = answersTo (freshLedger 0 (bare n push) (bare n push)) (call d bs ∷ [])
+audited n push = auditedBetween (bare n push) (bare n push)
 
 -- cause and place of a fill in X
 abbrev pub fillTold : Answer → ℕ × ℕ
@@ -82,19 +86,29 @@ pub record Pinned : Type 0 where
       ≡ read.Accepted 0 (record { shc = false; rp = 4; req = 1; rsp = 2; snp = 3; dat = 4 })
   -- 19 of the audit: direction 2
   pub direction : audited 2 true 2 [] ≡ (19, 0) ∷ []
-  -- 14 of messages: ReqS of plane 3, which shared credit does not excuse; a DataS without push; a WrReqDataS without push, which shared DAT
-  -- does not excuse, and with push and one plane
-  pub plane-3 : audited 2 true 0 ((126, 1) ∷ (0, 97) ∷ []) ≡ (14, 4) ∷ []
-  pub plane-3-shared : audited 2 true 0 ((126, 1) ∷ (0, 113) ∷ []) ≡ (14, 4) ∷ []
-  pub data-no-push : audited 2 false 0 ((126, 1) ∷ (0, 6) ∷ []) ≡ (14, 12) ∷ []
-  pub push-no-push : audited 2 false 0 ((126, 1) ∷ (0, 8) ∷ []) ≡ (14, 13) ∷ []
-  pub push-shared : audited 2 false 0 ((126, 1) ∷ (0, 8) ∷ (1, 1) ∷ []) ≡ (14, 13) ∷ []
-  pub push-one-plane : audited 1 true 0 ((126, 1) ∷ (0, 8) ∷ []) ≡ (14, 13) ∷ []
-  -- 14 of grants: plane 5 with four zero counts; DAT of plane 0 and of plane 1 without push; a message comes before the header's grant
-  pub grant-plane : audited 2 true 0 ((188, 10) ∷ []) ≡ (14, 6) ∷ []
-  pub grant-dat-0 : audited 2 false 0 ((252, 1) ∷ []) ≡ (14, 12) ∷ []
-  pub grant-dat-1 : audited 2 false 0 ((188, 2) ∷ (252, 1) ∷ []) ≡ (14, 13) ∷ []
-  pub message-first : audited 2 true 0 ((126, 1) ∷ (0, 97) ∷ (188, 10) ∷ []) ≡ (14, 4) ∷ []
+  -- 14 of messages, at their granule: ReqS of plane 3, also in G3, which shared credit does not excuse; a DataS without push; a WrReqDataS
+  -- without push, which shared DAT does not excuse, and with push and one plane
+  pub plane-3 : audited 2 true 0 ((126, 1) ∷ (0, 97) ∷ []) ≡ (14, 0) ∷ []
+  pub plane-3-g3 : audited 2 true 0 ((126, 8) ∷ (64, 97) ∷ []) ≡ (14, 3) ∷ []
+  pub plane-3-shared : audited 2 true 0 ((126, 1) ∷ (0, 113) ∷ []) ≡ (14, 0) ∷ []
+  pub data-no-push : audited 2 false 0 ((126, 1) ∷ (0, 6) ∷ []) ≡ (14, 0) ∷ []
+  pub push-no-push : audited 2 false 0 ((126, 1) ∷ (0, 8) ∷ []) ≡ (14, 0) ∷ []
+  pub push-shared : audited 2 false 0 ((126, 1) ∷ (0, 8) ∷ (1, 1) ∷ []) ≡ (14, 0) ∷ []
+  pub push-one-plane : audited 1 true 0 ((126, 1) ∷ (0, 8) ∷ []) ≡ (14, 0) ∷ []
+  -- 21 of grants, at 12 for the header and at the granule of a CrdtGrant: plane 5 with four zero counts, in the header and in G3; DAT of
+  -- plane 0 and of plane 1 without push
+  pub grant-plane : audited 2 true 0 ((188, 10) ∷ []) ≡ (21, 12) ∷ []
+  pub crdt-plane : audited 2 true 0 ((126, 8) ∷ (64, 10) ∷ (65, 2) ∷ (66, 10) ∷ []) ≡ (21, 3) ∷ []
+  pub grant-dat-0 : audited 2 false 0 ((252, 1) ∷ []) ≡ (21, 12) ∷ []
+  pub grant-dat-1 : audited 2 false 0 ((188, 2) ∷ (252, 1) ∷ []) ≡ (21, 12) ∷ []
+  -- a message in G3 comes before the header's grant, and that before a CrdtGrant in G0
+  pub message-first : audited 2 true 0 ((126, 8) ∷ (64, 97) ∷ (188, 10) ∷ []) ≡ (14, 3) ∷ []
+  pub header-first : audited 2 true 0 ((126, 1) ∷ (0, 10) ∷ (1, 2) ∷ (2, 10) ∷ (188, 10) ∷ []) ≡ (21, 12) ∷ []
+  -- one plane in direction 0 and two in direction 1: a ReqS of plane 1 is judged by its own direction, a grant to plane 1 by the opposite one
+  pub own-0 : auditedBetween (bare 1 true) (bare 2 true) 0 ((126, 1) ∷ (0, 33) ∷ []) ≡ (14, 0) ∷ []
+  pub own-1 : auditedBetween (bare 1 true) (bare 2 true) 1 ((126, 1) ∷ (0, 33) ∷ []) ≡ (15, 2) ∷ []
+  pub opposite-0 : auditedBetween (bare 1 true) (bare 2 true) 0 ((188, 2) ∷ []) ≡ (0, 0) ∷ []
+  pub opposite-1 : auditedBetween (bare 1 true) (bare 2 true) 1 ((188, 2) ∷ []) ≡ (21, 12) ∷ []
   -- 15: a Resp and a Snoop without a credit; 16: one SNP, one REQ of plane 1 and one shared DAT without a buffer; 15 before 16
   pub no-rsp : audited 2 true 1 ((126, 1) ∷ (0, 3) ∷ []) ≡ (15, 9) ∷ []
   pub no-snp : audited 2 true 1 ((126, 1) ∷ (0, 5) ∷ []) ≡ (15, 10) ∷ []

@@ -1,6 +1,6 @@
 -- The bench's own reader and pools as a link, and its audit as the audit of that link (document 01, "Pools and the audit").
 use Prim.Native.Nat.{ℕ}
-use mathlib.Core.Bool.{Bool, true, false, _&&_}
+use mathlib.Core.Bool.{_&&_}
 use mathlib.Core.List.{List, []}
 use lib.ListN.{length, getD}
 use lib.Dec.{eqb}
@@ -8,9 +8,9 @@ use Rattle.cause.specs.Checks.{Check, firstFault, passes}
 use Rattle.message.specs.Charges.{charges}
 use Rattle.container.specs.Layout.{formatOf, containerSize}
 use Rattle.container.specs.declared.grant.Grant.{Grant}
-use Rattle.reader.specs.Reading.{stateChecks, carried, readerOk, readerWith, nextReader}
+use Rattle.reader.specs.Reading.{carried, readerOk, readerWith, nextReader}
 use Rattle.reader.specs.declared.reader.Reader.{Reader}
-use Rattle.pools.specs.Pools.{messageChecks, chargedTo, paidTo, grantedTo, poolCount}
+use Rattle.pools.specs.Pools.{payable, chargedTo, paidTo, grantedTo, poolCount}
 use Rattle.ledger.specs.Entries.{startsIn, endsIn, grantsOf, checksThen}
 use Rattle.ledger.specs.Audit.{freshLedger, auditing, reported}
 use Rattle.pools.specs.declared.receiver.Receiver.{Receiver}
@@ -28,9 +28,9 @@ abbrev pub receiverFor : Receiver → Receiver → Direction → Receiver
 receiverFor a b direction0 = a
 receiverFor a b direction1 = b
 
--- the rules for bytes, heads and placement, and those for pools: the reader's checks, and 14 by messages and grants
+-- the rules for bytes, heads and placement, and those for pools: the reader's checks, 14 by messages, and 21 by grants
 abbrev pub ruleChecks : Receiver → Receiver → Reader → List ℕ → List Check
-ruleChecks own other s c = checksThen own other (stateChecks s c) (startsIn s c) (grantsFrom s c) []
+ruleChecks own other s c = checksThen own other s c []
 
 -- the link of a format and two receivers
 abbrev pub linkOf : ℕ → Receiver → Receiver → Link
@@ -44,7 +44,7 @@ linkOf f a b = record {
   begins = λ d s c p. paidTo p (startsIn s c);
   finishes = λ d s c p. paidTo p (endsIn s c);
   carried = λ s p. chargedTo p (charges (carried s));
-  stateOk = λ d s. readerOk s && passes (firstFault (messageChecks (receiverFor a b d) (carried s)));
+  stateOk = λ d s. readerOk s && payable (receiverFor a b d) (carried s);
   pools = poolCount;
   capacity = λ d p. getD (receiverFor a b d .capacities) p 0;
 }

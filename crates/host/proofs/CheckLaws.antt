@@ -38,7 +38,7 @@ module _ (f : ℕ) (c room : List ℕ) (o : Created) (eo : o ≡ newReader f) wh
     refused-code k p x e ex = ap (λ (y : ℕ). y * 65_536 + p) ex ∙ ap codeOf (sym e ∙ same)
 
     -- the place and the number are small
-    pub refused-small : (k : Cause) (p x : ℕ) → r .answer ≡ Refused k p → x ≡ causeNumber k → (p < 12) × (x < 21)
+    pub refused-small : (k : Cause) (p x : ℕ) → r .answer ≡ Refused k p → x ≡ causeNumber k → (p < 12) × (x < 256)
     refused-small k p x e ex =
         let m = number-most k in
         (refused-place (readerWith f []) c (length room) k p (sym same ∙ e), omega arith)

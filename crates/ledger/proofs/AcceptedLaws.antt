@@ -10,14 +10,17 @@ use lib.Seq.{getD-append-add}
 use lib.Dec.{eqb, ltb}
 use borrow.Author.Tests.{eqb-true, ltb-true, leb-true, eq-eqb, ne-eqb, lt-ltb, le-leb}
 use Rattle.lists.proofs.Tests.{and-left, and-right, and-both}
-use Rattle.cause.specs.Checks.{Pass, firstFault, passes}
+use Rattle.cause.specs.Checks.{Pass, firstFault}
 use Rattle.cause.specs.declared.Verdict.the-variants.{Accepted}
 use Rattle.cause.proofs.CheckLaws.{accepted-pass, pass-accepted, pass-front, pass-back, pass-append}
+use Rattle.container.specs.Layout.{formatOf}
+use Rattle.container.specs.Grants.{headerGrant}
 use Rattle.message.specs.Charges.{charges}
 use Rattle.reader.specs.Reading.{readerOk, carried, stateChecks, judgeChecks, nextReader}
 use Rattle.reader.specs.declared.reader.Reader.{Reader}
 use Rattle.reader.proofs.CarryLaws.{next-valid}
-use Rattle.pools.specs.Pools.{messageChecks, allMessages, allGrants, chargedTo, paidTo, grantedTo}
+use Rattle.pools.specs.Pools.{payable, messageChecks, grantChecks, chargedTo, paidTo, grantedTo}
+use Rattle.ledger.specs.Entries.{cellsIn}
 use Rattle.ledger.specs.Audit.{receiverOf, readerOf, heldOf, openOf, ledgerOk, opposite, begun, finished, granted, creditChecks, capacityChecks, auditChecks, heldAfter, openAfter, nextLedger}
 use Rattle.pools.specs.Rows.{row, table}
 use Rattle.ledger.specs.declared.ledger.Ledger.{Ledger}
@@ -83,8 +86,8 @@ pub record AcceptedEntry (s : Ledger) (d : ℕ) (c : List ℕ) : Type 0 where
   pub ledger : ledgerOk s ≡ true
   pub long : length c ≡ 256
   pub reads : Pass (stateChecks (readerOf s d) c)
-  pub messages : Pass (allMessages (receiverOf s d) (begun s d c))
-  pub grants : Pass (allGrants (receiverOf s (opposite d)) (granted s d c))
+  pub messages : Pass (messageChecks (receiverOf s d) (cellsIn (readerOf s d) c))
+  pub grants : Pass (grantChecks (receiverOf s (opposite d)) (headerGrant (formatOf (s .format)) c) (cellsIn (readerOf s d) c))
   pub covered : (p : ℕ) → p < 14 → paidTo p (begun s d c) ≤ heldOf s d p
   pub fits : (p : ℕ) → p < 14 → Fits s (opposite d) (granted s d c) p
 
@@ -94,8 +97,8 @@ module _ (s : Ledger) (d : ℕ) (c : List ℕ) where
   accepted-by e =
       let h = accepted-pass (auditChecks s d c) e in
       let state = stateChecks (readerOf s d) c in
-      let messages = allMessages (receiverOf s d) (begun s d c) in
-      let grants = allGrants (receiverOf s (opposite d)) (granted s d c) in
+      let messages = messageChecks (receiverOf s d) (cellsIn (readerOf s d) c) in
+      let grants = grantChecks (receiverOf s (opposite d)) (headerGrant (formatOf (s .format)) c) (cellsIn (readerOf s d) c) in
       let held = creditChecks s d (begun s d c) 14 0 in
       let room = capacityChecks s (opposite d) (granted s d c) 14 0 in
       let a = pass-back state (messages ++ (grants ++ (held ++ room))) (h .1 .1) in
@@ -116,8 +119,8 @@ module _ (s : Ledger) (d : ℕ) (c : List ℕ) where
   unfolding auditChecks
   entry-checks-accepted a =
       let state = stateChecks (readerOf s d) c in
-      let messages = allMessages (receiverOf s d) (begun s d c) in
-      let grants = allGrants (receiverOf s (opposite d)) (granted s d c) in
+      let messages = messageChecks (receiverOf s d) (cellsIn (readerOf s d) c) in
+      let grants = grantChecks (receiverOf s (opposite d)) (headerGrant (formatOf (s .format)) c) (cellsIn (readerOf s d) c) in
       let held = creditChecks s d (begun s d c) 14 0 in
       let room = capacityChecks s (opposite d) (granted s d c) 14 0 in
       let pools : Pass (held ++ room) = pass-append held room (held-by s d (begun s d c) 14 0 (λ i b. rw (zero-add i) (a .covered i b))) (granted-by s (opposite d) (granted s d c) 14 0 (λ i b. rw (zero-add i) (a .fits i b))) in
@@ -212,8 +215,7 @@ module _ (s : Ledger) (d : ℕ) (c : List ℕ) where
     unfolding judgeChecks
     judged = pass-accepted (judgeChecks (readerOf s d) c) (here .reader, (eq-eqb (length c) 256 (a .long), a .reads))
 
-    passed : passes (firstFault (messageChecks (receiverOf s d) (carried (nextReader (readerOf s d) c)))) ≡ true
-    unfolding begun
+    passed : payable (receiverOf s d) (carried (nextReader (readerOf s d) c)) ≡ true
     passed = next-passes (readerOf s d) c (here .reader) (a .long) (a .reads) (receiverOf s d) (here .carry) (a .messages)
 
     own-valid : ValidDirection (nextLedger s d c) d
@@ -223,7 +225,7 @@ module _ (s : Ledger) (d : ℕ) (c : List ℕ) where
         record {
           receiver = here .receiver;
           reader = ap readerOk e ∙ next-valid (readerOf s d) c judged;
-          carry = ap (λ (r : Reader). passes (firstFault (messageChecks (receiverOf s d) (carried r)))) e ∙ passed;
+          carry = ap (λ (r : Reader). payable (receiverOf s d) (carried r)) e ∙ passed;
           unfinished = λ p h. open-carried p h ∙ ap (λ (r : Reader). chargedTo p (charges (carried r))) (sym e);
           room = λ p h. let o = open-own p h in let q = held-own p h in let r = here .room p h in let f = finished-covered p h in omega arith;
         }
@@ -235,7 +237,7 @@ module _ (s : Ledger) (d : ℕ) (c : List ℕ) where
         record {
           receiver = there .receiver;
           reader = ap readerOk e ∙ there .reader;
-          carry = ap (λ (r : Reader). passes (firstFault (messageChecks (receiverOf s (opposite d)) (carried r)))) e ∙ there .carry;
+          carry = ap (λ (r : Reader). payable (receiverOf s (opposite d)) (carried r)) e ∙ there .carry;
           unfinished = λ p h. open-other p h ∙ there .unfinished p h ∙ ap (λ (r : Reader). chargedTo p (charges (carried r))) (sym e);
           room = λ p h. let o = open-other p h in let q = held-other p h in let f = a .fits p h in omega arith;
         }

@@ -2,7 +2,7 @@
 use Prim.Native.Nat.{ℕ, zero, suc, _+_, _-_, _/_, _%_, _^_, _≤_, _<_}
 use mathlib.Core.Path.{_≡_, sym, ap, ap₂, subst, _∙_}
 use mathlib.Core.Bool.{Bool, true, false, _&&_, not}
-use mathlib.Core.List.{List, [], _++_}
+use mathlib.Core.List.{List, [], _∷_, _++_}
 use mathlib.Core.Logic.{⊎-elim}
 use native.Mathlib.Omega.{arith}
 use native.Mathlib.Nat.{zero-add}
@@ -26,10 +26,11 @@ use Rattle.reader.specs.declared.carry.Carry.{Carry}
 use Rattle.reader.proofs.AnswerLaws.{judge-state}
 use Rattle.reader.proofs.CarryLaws.{next-valid}
 use Rattle.reader.proofs.NextLaws.{carry-part, valid-short}
-use Rattle.pools.specs.Pools.{allMessages, allGrants, grantChecks, chargedTo, paidTo, grantedBy, grantedTo}
+use Rattle.pools.specs.Pools.{messageChecks, grantChecks, chargedTo, paidTo, grantedBy, grantedTo}
+use Rattle.ledger.specs.Entries.{cellsIn}
 use Rattle.ledger.specs.Audit.{receiverOf, readerOf, ledgerOk, opposite, begun, granted, creditChecks, capacityChecks, auditChecks, auditing}
 use Rattle.pools.specs.Rows.{row, nested, flattened, entryOf, rows}
-use Rattle.pools.specs.TalliesMirror.{startsChecks, startsPay, crdtChecks, crdtGives, Tallied}
+use Rattle.pools.specs.TalliesMirror.{startsChecks, startsPay, grantCheck, crdtChecks, crdtGives, Tallied}
 use Rattle.pools.specs.Tallies.{begunTally, grantsGive, grantedTally}
 use Rattle.ledger.specs.CountingMirror.{creditRowChecks, capacityRowChecks, settledHeld, settledOpen, entered, countChecks, settling}
 use Rattle.pools.specs.declared.receiver.Receiver.{Receiver}
@@ -161,10 +162,10 @@ module _ (s : Ledger) (d : ℕ) (c : List ℕ) where
     state = stateChecks (readerOf s d) c
 
     abbrev messages : List Check
-    messages = allMessages (receiverOf s d) (begun s d c)
+    messages = messageChecks (receiverOf s d) (cellsIn (readerOf s d) c)
 
     abbrev grants : List Check
-    grants = allGrants (receiverOf s o) (granted s d c)
+    grants = grantChecks (receiverOf s o) (headerGrant (formatOf (s .format)) c) (cellsIn (readerOf s d) c)
 
     abbrev pools : List Check
     pools = creditChecks s d (begun s d c) 14 0 ++ capacityChecks s o (granted s d c) 14 0
@@ -194,7 +195,6 @@ module _ (s : Ledger) (d : ℕ) (c : List ℕ) where
         et = begun-is r c w n counted
 
         begun-verdict : t .verdict ≡ firstFault messages
-        unfolding begun
         begun-verdict =
             et .verdict ∙ (λ i. firstFault (startsChecks (er i) c (ew i) 12 0))
             ∙ ap firstFault (starts-checks (s .format) c n (receiverOf s d) 12 0 (carried (readerOf s d)) (omega arith))
@@ -209,19 +209,18 @@ module _ (s : Ledger) (d : ℕ) (c : List ℕ) where
         begun-refused e ex =
             audit-refused (entry-accepted ∙ skip state (messages ++ (grants ++ pools)) reads ∙ sym (stops-before messages (grants ++ pools) begun-verdict e) ∙ e) ex
 
-        -- 14 by the grants
+        -- 21 by the grants
         module _ (sound : t .verdict ≡ Accepted) {q : Receiver} (eq : q ≡ receiverOf s o) {g : Grant} (eg : g ≡ headerGrant (formatOf (s .format)) c) {u : Tally} (given : u ≡ grantedTally q g c w) where
-          eu : Tallied (grantChecks q g ++ crdtChecks q c w 12 0) (grantsGive g c w) u
+          eu : Tallied (grantCheck q g 12 ∷ crdtChecks q c w 12 0) (grantsGive g c w) u
           eu = granted-is q c w g n (grant-plane (s .format) c eg) given
 
           begun-pass : Pass messages
           begun-pass = accepted-pass messages (sym begun-verdict ∙ sound)
 
           granted-verdict : u .verdict ≡ firstFault grants
-          unfolding granted begun allGrants
           granted-verdict =
-              eu .verdict ∙ (λ i. firstFault (grantChecks (eq i) (eg i) ++ crdtChecks (eq i) c (ew i) 12 0))
-              ∙ ap (λ (l : List Check). firstFault (grantChecks (receiverOf s o) (headerGrant (formatOf (s .format)) c) ++ l)) (crdt-checks (s .format) c n (receiverOf s o) 12 0 (carried (readerOf s d)) (omega arith))
+              eu .verdict ∙ (λ i. firstFault (grantCheck (eq i) (eg i) 12 ∷ crdtChecks (eq i) c (ew i) 12 0))
+              ∙ ap (λ (l : List Check). firstFault (grantCheck (receiverOf s o) (headerGrant (formatOf (s .format)) c) 12 ∷ l)) (crdt-checks (s .format) c n (receiverOf s o) 12 0 (carried (readerOf s d)) (omega arith))
 
           granted-counts : u .verdict ≡ Accepted → u .counts ≡ givenRow s d c h
           unfolding granted begun grantedTo

@@ -10,9 +10,8 @@ use lib.ListN.{length, getD, replicate}
 use lib.Seq.{take-at}
 use Rattle.lists.specs.Pick.{pick}
 use Rattle.lists.proofs.Tests.{cases}
-use Rattle.cause.specs.Checks.{Pass, firstFault, passes}
-use Rattle.cause.specs.declared.Verdict.the-variants.{Accepted}
-use Rattle.cause.proofs.CheckLaws.{pass-accepted, pass-front, pass-back}
+use Rattle.cause.specs.Checks.{Pass}
+use Rattle.cause.specs.declared.Cause.the-variants.{MissingPool}
 use Rattle.container.specs.Layout.{formatOf}
 use Rattle.message.specs.Charges.{charges, chargesBy, listed}
 use Rattle.placement.specs.Cells.{cells, endings, startings, carryAfter}
@@ -20,7 +19,9 @@ use Rattle.placement.specs.Checking.{granuleChecks}
 use Rattle.reader.specs.Reading.{readerOk, carried, stateChecks, nextReader}
 use Rattle.reader.specs.declared.reader.Reader.{Reader}
 use Rattle.reader.proofs.CarryLaws.{granules-pass, reader-ok}
-use Rattle.pools.specs.Pools.{messageChecks, paymentChecks, allMessages, chargedTo, paidTo}
+use Rattle.pools.specs.Pools.{payable, payableBy, messageChecks, chargedTo, paidTo}
+use Rattle.pools.proofs.GranuleLaws.{All, payable-all}
+use Rattle.ledger.specs.Entries.{cellsIn}
 use Rattle.pools.specs.declared.receiver.Receiver.{Receiver}
 use Rattle.ledger.proofs.HeadSums.{headOf, headsOf, heads-kept}
 
@@ -36,18 +37,16 @@ paid-heads p (m ∷ ms) = ap (λ (n : ℕ). chargedTo p (charges m) + n) (paid-h
 
 -- 1 where a message with these bytes 0 and 1 does not pass 14
 abbrev failBy : Receiver → ℕ → ℕ → ℕ
-failBy r first second = pick (passes (firstFault (paymentChecks r (first % 16) first second))) 0 1
+failBy r first second = pick (payableBy r (first % 16) first second) 0 1
 
 fail-none : (r : Receiver) → failBy r 0 0 ≡ 0
 fail-none r = refl
 
-pass-fails : (r : Receiver) (ms : List (List ℕ)) → Pass (allMessages r ms) → headsOf (failBy r) (fail-none r) ms ≡ 0
-unfolding allMessages
+pass-fails : (r : Receiver) (ms : List (List ℕ)) → All (λ m. payable r m ≡ true) ms → headsOf (failBy r) (fail-none r) ms ≡ 0
 pass-fails r [] h = refl
 pass-fails r (m ∷ ms) h =
-    let e : firstFault (messageChecks r m) ≡ Accepted = pass-accepted (messageChecks r m) (pass-front (messageChecks r m) (allMessages r ms) h) in
-    let i = pass-fails r ms (pass-back (messageChecks r m) (allMessages r ms) h) in
-    let z : failBy r (getD m 0 0) (getD m 1 0) ≡ 0 = rw e in
+    let i = pass-fails r ms (h .1) in
+    let z : failBy r (getD m 0 0) (getD m 1 0) ≡ 0 = rw (h .0) in
     omega arith
 
 -- ---- the reader of a direction
@@ -77,14 +76,13 @@ module _ (r : Reader) (c : List ℕ) (v : readerOk r ≡ true) (n : length c ≡
       omega arith
 
   -- where the carry and what starts pass 14, so does what is carried on
-  pub next-passes : (a : Receiver) → passes (firstFault (messageChecks a (carried r))) ≡ true → Pass (allMessages a (startings (cells (formatOf (r .format)) c 12 0 (carried r))))
-      → passes (firstFault (messageChecks a (carried (nextReader r c)))) ≡ true
+  pub next-passes : (a : Receiver) → payable a (carried r) ≡ true → Pass (messageChecks a (cellsIn r c)) → payable a (carried (nextReader r c)) ≡ true
   next-passes a e q =
       let es = cells (formatOf (r .format)) c 12 0 (carried r) in
       let k = heads-kept (failBy a) (fail-none a) (r .format) c n (carried r) (reader-ok r v .carry) granules in
-      let b = pass-fails a (startings es) q in
+      let b = pass-fails a (startings es) (payable-all a MissingPool 0 es q) in
       let z : failBy a (getD (carried r) 0 0) (getD (carried r) 1 0) ≡ 0 = rw e in
       let o : headOf (failBy a) (fail-none a) (carryAfter (formatOf (r .format)) 0 es (carried r)) ≡ 0 = omega arith in
-      ap (λ (m : List ℕ). passes (firstFault (messageChecks a m))) (carried-next r c)
-      ∙ ⊎-elim (λ t. t) (λ (t : passes (firstFault (messageChecks a (carryAfter (formatOf (r .format)) 0 es (carried r)))) ≡ false). absurd (let w : 1 ≡ 0 = rw t at o in omega arith))
-      (cases (passes (firstFault (messageChecks a (carryAfter (formatOf (r .format)) 0 es (carried r))))))
+      ap (payable a) (carried-next r c)
+      ∙ ⊎-elim (λ t. t) (λ (t : payable a (carryAfter (formatOf (r .format)) 0 es (carried r)) ≡ false). absurd (let w : 1 ≡ 0 = rw t at o in omega arith))
+      (cases (payable a (carryAfter (formatOf (r .format)) 0 es (carried r))))

@@ -6,10 +6,9 @@ use native.Mathlib.Omega.{arith}
 use lib.ListN.{getD-replicate}
 use lib.Dec.{ltb}
 use Rattle.lists.proofs.Tests.{and-left, and-right, and-both}
-use Rattle.cause.specs.Checks.{firstFault, passes}
 use Rattle.message.specs.Charges.{charges}
 use Rattle.reader.specs.Reading.{readerOk, carried}
-use Rattle.pools.specs.Pools.{messageChecks, chargedTo, receiverOk}
+use Rattle.pools.specs.Pools.{payable, chargedTo, receiverOk}
 use Rattle.pools.specs.declared.receiver.Receiver.{Receiver}
 use Rattle.ledger.specs.Audit.{receiverOf, readerOf, ledgerOk, freshLedger, configured}
 use Rattle.ledger.proofs.ValidLaws.{ValidDirection, valid-ledger}
@@ -25,7 +24,7 @@ fresh-direction f a b d two ok good reads = record {
   room = λ p h. let held = getD-replicate {A = ℕ} 28 (14 * d + p) 0 0 (omega arith) in omega arith;
 }
   where
-    carry-passes : (d : ℕ) → d < 2 → passes (firstFault (messageChecks (receiverOf (freshLedger f a b) d) (carried (readerOf (freshLedger f a b) d)))) ≡ true
+    carry-passes : (d : ℕ) → d < 2 → payable (receiverOf (freshLedger f a b) d) (carried (readerOf (freshLedger f a b) d)) ≡ true
     carry-passes zero h = refl
     carry-passes (suc zero) h = refl
     carry-passes (suc (suc d)) h = absurd (omega arith)

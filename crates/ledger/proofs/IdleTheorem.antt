@@ -15,6 +15,8 @@ use Rattle.lists.proofs.Tests.{and-left, and-right, and-both}
 use Rattle.lists.proofs.PickLaws.{pick-both}
 use Rattle.lists.proofs.ZeroLaws.{zeros-at, zeros-replicate}
 use Rattle.cause.specs.Checks.{Pass, firstFault}
+use Rattle.cause.specs.declared.Cause.{Cause}
+use Rattle.cause.specs.declared.Cause.the-variants.{MissingPool, MissingGrantPool}
 use Rattle.cause.specs.declared.Verdict.the-variants.{Accepted}
 use Rattle.cause.proofs.CheckLaws.{pass-accepted, accepted-pass, pass-append}
 use Rattle.container.specs.Layout.{Format, formatOf, msgStart, bit}
@@ -22,7 +24,7 @@ use Rattle.container.specs.Idle.{idleFrom, idle}
 use Rattle.container.specs.Grants.{grantOf, headerGrant}
 use Rattle.container.specs.declared.grant.Grant.{Grant}
 use Rattle.container.proofs.IdleLaws.{idle-exactly}
-use Rattle.placement.specs.Cells.{cells, carryAfter, endings, startings}
+use Rattle.placement.specs.Cells.{Cell, cellAt, after, cells, carryAfter, endings, startings}
 use Rattle.placement.specs.Checking.{granuleChecks, groupChecks, containerChecks}
 use Rattle.reader.specs.Reading.{carryWith, carried, stateChecks, judgeChecks, nextReader}
 use Rattle.reader.specs.declared.carry.Carry.{Carry}
@@ -31,7 +33,8 @@ use Rattle.reader.specs.declared.reader.JudgeAnswer.the-variants as judge
 use Rattle.reader.proofs.AnswerLaws.{judge-state, judge-checks-accepted, judged-accepted}
 use Rattle.reader.proofs.CarryLaws.{reader-ok}
 use Rattle.reader.proofs.LinkLaws.{judging-same}
-use Rattle.pools.specs.Pools.{capacitiesOk, allMessages, allGrants, grantsIn, grantedTo, paidTo}
+use Rattle.pools.specs.Pools.{capacitiesOk, grantable, startPayable, startGrantable, eachGranule, messageChecks, grantChecks, grantsIn, grantedTo, paidTo}
+use Rattle.ledger.specs.Entries.{cellsIn}
 use Rattle.ledger.specs.Audit.{receiverOf, readerOf, heldOf, openOf, ledgerOk, opposite, begun, finished, granted, creditChecks, capacityChecks, auditChecks, heldAfter, openAfter, nextLedger, auditing}
 use Rattle.ledger.specs.CountingMirror.{idleEntry}
 use Rattle.ledger.specs.declared.ledger.Ledger.{Ledger}
@@ -80,6 +83,12 @@ module _ (fm : Format) (c : List ℕ) (none : msgStart fm c ≡ 0) where
   unfolding cells carryAfter
   carry-none zero g = refl
   carry-none (suc k) g = rw (no-start g) (carry-none k (g + 1))
+
+  -- a test that holds of every cell in which nothing starts passes at every granule
+  granules-idle : (test : Cell → Bool) (k : Cause) → ((e : Cell) → e .starts ≡ false → test e ≡ true) → (i g : ℕ) (m : List ℕ) → Pass (eachGranule test k g (cells fm c i g m))
+  unfolding cells eachGranule
+  granules-idle test k h zero g m = tt
+  granules-idle test k h (suc i) g m = (h (cellAt fm g c m) (no-start g), granules-idle test k h i (g + 1) (after fm g (cellAt fm g c m) m))
 
 -- a grant of nothing gives no pool anything
 none-of : (t : Bool) {n : ℕ} → n ≡ 0 → pick t 0 n ≡ 0
@@ -153,28 +162,32 @@ module _ (s : Ledger) (d : ℕ) (c : List ℕ) (b : d < 2) (ok : ledgerOk s ≡ 
       granted-pass k (p + 1) (omega arith),
     )
 
-    grant-pass : Pass (allGrants (receiverOf s (opposite d)) (noGrant ∷ []))
-    unfolding allGrants
+    grant-pass : grantable (receiverOf s (opposite d)) (headerGrant fm c) ≡ true
     grant-pass =
         let o = receiverOf s (opposite d) in
         let h = and-left (leb 1 (o .planes)) (leb (o .planes) 8) (and-left (leb 1 (o .planes) && leb (o .planes) 8) (capacitiesOk o 14 0) (v .receiver)) in
-        (lt-ltb 0 (o .planes) (leb-true 1 (o .planes) h), (refl, tt))
+        ap (grantable o) (sym (read .1)) ∙ and-both (ltb 0 (o .planes)) true (lt-ltb 0 (o .planes) (leb-true 1 (o .planes) h)) refl
 
   -- every check passes
   audit-pass : Pass (auditChecks s d c)
-  unfolding auditChecks allMessages
+  unfolding auditChecks
   audit-pass =
       let v = ledger-valid s (opposite d) ok (omega arith) in
-      let grants = allGrants (receiverOf s (opposite d)) (noGrant ∷ []) in
+      let es = cellsIn r c in
+      let messages = messageChecks (receiverOf s d) es in
+      let grants = grantChecks (receiverOf s (opposite d)) (headerGrant fm c) es in
       let held = creditChecks s d [] 14 0 in
       let room = capacityChecks s (opposite d) (noGrant ∷ []) 14 0 in
-      let read-pass : Pass (stateChecks r c) = accepted-pass (stateChecks r c) (sym (judge-state r c (valid .reader) n) ∙ read .0) in (
+      let read-pass : Pass (stateChecks r c) = accepted-pass (stateChecks r c) (sym (judge-state r c (valid .reader) n) ∙ read .0) in
+      let paid : Pass messages = granules-idle fm c (sym (read .2)) (startPayable (receiverOf s d)) MissingPool (λ e t. rw t) 12 0 (carried r) in
+      let given : Pass grants = (grant-pass v, granules-idle fm c (sym (read .2)) (startGrantable (receiverOf s (opposite d))) MissingGrantPool (λ e t. rw t) 12 0 (carried r)) in (
         and-both (ltb d 2) (ledgerOk s) (lt-ltb d 2 b) ok,
         (
           eq-eqb (length c) 256 n,
           rw (begun-none, granted-none)
-              (pass-append (stateChecks r c) (grants ++ (held ++ room)) read-pass
-              (pass-append grants (held ++ room) (grant-pass v) (pass-append held room (held-pass 14 0) (granted-pass v 14 0 (omega arith))))),
+              (pass-append (stateChecks r c) (messages ++ (grants ++ (held ++ room))) read-pass
+              (pass-append messages (grants ++ (held ++ room)) paid
+              (pass-append grants (held ++ room) given (pass-append held room (held-pass 14 0) (granted-pass v 14 0 (omega arith)))))),
         ),
       )
 

@@ -6,14 +6,10 @@ use mathlib.Core.List.{List, []}
 use native.Mathlib.Omega.{arith}
 use lib.ListN.{getD}
 use borrow.Author.Tests.{not-true, not-false}
-use Rattle.cause.specs.Checks.{firstFault, passes}
-use Rattle.cause.specs.declared.Cause.{Cause}
-use Rattle.cause.specs.declared.Verdict.{Verdict}
-use Rattle.cause.specs.declared.Verdict.the-variants.{Accepted, Refused}
 use Rattle.message.specs.Charges.{charges}
 use Rattle.reader.specs.Reading.{readerOk, carried}
 use Rattle.reader.specs.declared.reader.Reader.{Reader}
-use Rattle.pools.specs.Pools.{receiverOk, paymentChecks, messageChecks, chargedTo}
+use Rattle.pools.specs.Pools.{receiverOk, payableBy, payable, chargedTo}
 use Rattle.ledger.specs.Audit.{receiverOf, readerOf, poolsOk, directionOk}
 use Rattle.pools.specs.Rows.{row, nested}
 use Rattle.ledger.specs.CountingMirror.{rowsOk, pooled}
@@ -30,17 +26,17 @@ module _ (a b : Bool) {t : Bool} (e : t ≡ a) where
   pub second-decides : t ≡ true → {u : Bool} → u ≡ b → u ≡ (a && b)
   second-decides f g = g ∙ sym (ap (λ (x : Bool). x && b) (sym e ∙ f))
 
--- the verdict on what is carried, by its first two bytes
+-- whether the pools of what is carried exist, by its first two bytes
 module _ (s : Ledger) (d : ℕ) {r : Receiver} (er : r ≡ receiverOf s d) {m : List ℕ} (em : m ≡ carried (readerOf s d)) {x y : ℕ} (ex : x ≡ getD m 0 0) (ey : y ≡ getD m 1 0)
-    {v : Verdict} (ev : v ≡ firstFault (paymentChecks r (x % 16) x y)) where
-  carry-verdict : v ≡ firstFault (messageChecks (receiverOf s d) (carried (readerOf s d)))
-  carry-verdict = ev ∙ (λ i. firstFault (paymentChecks r (ex i % 16) (ex i) (ey i))) ∙ (λ i. firstFault (messageChecks (er i) (em i)))
+    {t : Bool} (et : t ≡ payableBy r (x % 16) x y) where
+  carry-payable : t ≡ payable (receiverOf s d) (carried (readerOf s d))
+  carry-payable = et ∙ (λ i. payableBy r (ex i % 16) (ex i) (ey i)) ∙ (λ i. payable (er i) (em i))
 
-  pub carry-refused : {k : Cause} {p : ℕ} → v ≡ Refused k p → false ≡ pooled s d
-  carry-refused e = sym (ap (λ (w : Verdict). passes w && poolsOk s d 14 0) (sym carry-verdict ∙ e))
+  pub carry-refused : not t ≡ true → false ≡ pooled s d
+  carry-refused n = first-fails (payable (receiverOf s d) (carried (readerOf s d))) (poolsOk s d 14 0) carry-payable (not-true t n)
 
-  pub pools-decide : v ≡ Accepted → {t : Bool} → t ≡ poolsOk s d 14 0 → t ≡ pooled s d
-  pools-decide e et = et ∙ sym (ap (λ (w : Verdict). passes w && poolsOk s d 14 0) (sym carry-verdict ∙ e))
+  pub pools-decide : not t ≡ false → {u : Bool} → u ≡ poolsOk s d 14 0 → u ≡ pooled s d
+  pools-decide n eu = second-decides (payable (receiverOf s d) (carried (readerOf s d))) (poolsOk s d 14 0) carry-payable (not-false t n) eu
 
 -- the pools of a direction by its rows
 module _ (s : Ledger) (d : ℕ) (h : d < 2) where

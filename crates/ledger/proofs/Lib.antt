@@ -15,6 +15,7 @@ pub mod RunLaws
 pub mod CallLaws
 pub mod RunRuleLaws
 pub mod EntryFaults
+pub mod LackLaws
 pub mod AuditFaults
 pub mod AuditTable
 pub mod LedgerTable

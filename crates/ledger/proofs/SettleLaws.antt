@@ -15,10 +15,13 @@ use Rattle.cause.specs.declared.Verdict.{Verdict}
 use Rattle.cause.specs.declared.Verdict.the-variants.{Accepted, Refused}
 use Rattle.cause.specs.declared.Cause.the-variants.{BegunOverGranted}
 use Rattle.cause.proofs.CheckLaws.{pass-accepted, first-append}
+use Rattle.container.specs.Layout.{formatOf}
+use Rattle.container.specs.Grants.{headerGrant}
 use Rattle.message.specs.Charges.{charges}
 use Rattle.reader.specs.Reading.{bytesIn, stateChecks, nextReader}
 use Rattle.reader.specs.declared.carry.Carry.{Carry}
-use Rattle.pools.specs.Pools.{allMessages, allGrants, chargedTo, paidTo, grantedTo}
+use Rattle.pools.specs.Pools.{messageChecks, grantChecks, chargedTo, paidTo, grantedTo}
+use Rattle.ledger.specs.Entries.{cellsIn}
 use Rattle.ledger.specs.Audit.{receiverOf, readerOf, ledgerOk, opposite, begun, granted, creditChecks, capacityChecks, auditChecks, heldAfter, openAfter, nextLedger, auditing}
 use Rattle.pools.specs.Rows.{row, table, nested, flattened, entryOf, rows}
 use Rattle.ledger.specs.CountingMirror.{creditRowChecks, capacityRowChecks, settledHeld, settledOpen, entered, countChecks, settling}
@@ -76,13 +79,13 @@ module _ (s : Ledger) (d : ℕ) (c : List ℕ) (h : d < 2) where
 
   -- an entry that reads and whose pools exist is judged by its rows
   module _ (v : ledgerOk s ≡ true) (n : length c ≡ 256) (r : Pass (stateChecks (readerOf s d) c))
-      (m : Pass (allMessages (receiverOf s d) (begun s d c))) (g : Pass (allGrants (receiverOf s o) (granted s d c))) where
+      (m : Pass (messageChecks (receiverOf s d) (cellsIn (readerOf s d) c))) (g : Pass (grantChecks (receiverOf s o) (headerGrant (formatOf (s .format)) c) (cellsIn (readerOf s d) c))) where
     count-verdict : firstFault (auditChecks s d c) ≡ firstFault (countChecks s d paidRow givenRow)
     unfolding auditChecks
     count-verdict =
         let pools = creditChecks s d (begun s d c) 14 0 ++ capacityChecks s o (granted s d c) 14 0 in
-        let grants = allGrants (receiverOf s o) (granted s d c) in
-        let messages = allMessages (receiverOf s d) (begun s d c) in
+        let grants = grantChecks (receiverOf s o) (headerGrant (formatOf (s .format)) c) (cellsIn (readerOf s d) c) in
+        let messages = messageChecks (receiverOf s d) (cellsIn (readerOf s d) c) in
         rw (lt-ltb d 2 h, v, eq-eqb (length c) 256 n)
         (skip (stateChecks (readerOf s d) c) (messages ++ (grants ++ pools)) r ∙ skip messages (grants ++ pools) m ∙ skip grants pools g
         ∙ ap₂ (λ (x y : List Check). firstFault (x ++ y)) (short-checks 14 0 (omega arith)) (over-checks 14 0 (omega arith)))

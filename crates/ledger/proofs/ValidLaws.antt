@@ -7,10 +7,9 @@ use lib.ListN.{getD}
 use lib.Dec.{eqb, leb}
 use borrow.Author.Tests.{eqb-true, leb-true, eq-eqb, le-leb}
 use Rattle.lists.proofs.Tests.{and-left, and-right, and-both}
-use Rattle.cause.specs.Checks.{firstFault, passes}
 use Rattle.message.specs.Charges.{charges}
 use Rattle.reader.specs.Reading.{readerOk, carried}
-use Rattle.pools.specs.Pools.{receiverOk, messageChecks, chargedTo}
+use Rattle.pools.specs.Pools.{receiverOk, payable, chargedTo}
 use Rattle.ledger.specs.Audit.{receiverOf, readerOf, heldOf, openOf, poolOk, poolsOk, directionOk, ledgerOk}
 use Rattle.ledger.specs.declared.ledger.Ledger.{Ledger}
 
@@ -18,14 +17,14 @@ use Rattle.ledger.specs.declared.ledger.Ledger.{Ledger}
 pub record ValidDirection (s : Ledger) (d : ℕ) : Type 0 where
   pub receiver : receiverOk (receiverOf s d) ≡ true
   pub reader : readerOk (readerOf s d) ≡ true
-  pub carry : passes (firstFault (messageChecks (receiverOf s d) (carried (readerOf s d)))) ≡ true
+  pub carry : payable (receiverOf s d) (carried (readerOf s d)) ≡ true
   pub unfinished : (p : ℕ) → p < 14 → openOf s d p ≡ chargedTo p (charges (carried (readerOf s d)))
   pub room : (p : ℕ) → p < 14 → heldOf s d p + openOf s d p ≤ getD (receiverOf s d .capacities) p 0
 
 module _ (s : Ledger) (d : ℕ) where
   -- the tests of a direction and of a pool
   abbrev fourteen : Bool
-  fourteen = passes (firstFault (messageChecks (receiverOf s d) (carried (readerOf s d))))
+  fourteen = payable (receiverOf s d) (carried (readerOf s d))
 
   abbrev last : Bool
   last = fourteen && poolsOk s d 14 0

@@ -5,16 +5,15 @@ use mathlib.Core.List.{List, [], _∷_, _++_}
 use lib.ListN.{length, getD, replicate}
 use lib.Dec.{eqb, ltb, leb}
 use Rattle.lists.specs.Pick.{pick}
-use Rattle.cause.specs.Checks.{Check, check, firstFault, whenAccepted, passes}
-use Rattle.cause.specs.declared.Verdict.{Verdict}
+use Rattle.cause.specs.Checks.{Check, check, firstFault, whenAccepted}
 use Rattle.cause.specs.declared.Verdict.the-variants.{Accepted, Refused}
 use Rattle.cause.specs.declared.Cause.the-variants.{InvalidState, ContainerLength, BegunOverGranted, GrantedOverCapacity}
 use Rattle.container.specs.Layout.{formatOf, containerSize}
 use Rattle.container.specs.declared.grant.Grant.{Grant}
 use Rattle.message.specs.Charges.{charges}
-use Rattle.reader.specs.Reading.{carryWith, readerOk, carried, stateChecks, nextReader}
+use Rattle.reader.specs.Reading.{carryWith, readerOk, carried, nextReader}
 use Rattle.reader.specs.declared.reader.Reader.{Reader}
-use Rattle.pools.specs.Pools.{receiverOk, messageChecks, chargedTo, paidTo, grantedTo, poolCount}
+use Rattle.pools.specs.Pools.{receiverOk, payable, chargedTo, paidTo, grantedTo, poolCount}
 use Rattle.pools.specs.Rows.{table}
 use Rattle.pools.specs.declared.receiver.Receiver.{Receiver}
 use Rattle.ledger.specs.Entries.{startsIn, endsIn, grantsOf, checksThen}
@@ -52,7 +51,7 @@ poolsOk s d (suc k) p = poolOk s d p && poolsOk s d k (p + 1)
 abbrev pub directionOk : Ledger → ℕ → Bool
 directionOk s d =
     receiverOk (receiverOf s d)
-    && (readerOk (readerOf s d) && (passes (firstFault (messageChecks (receiverOf s d) (carried (readerOf s d)))) && poolsOk s d poolCount 0))
+    && (readerOk (readerOf s d) && (payable (receiverOf s d) (carried (readerOf s d)) && poolsOk s d poolCount 0))
 
 abbrev pub ledgerOk : Ledger → Bool
 ledgerOk s = directionOk s 0 && directionOk s 1
@@ -83,12 +82,12 @@ capacityChecks s d ns (suc k) p =
     check (leb (heldOf s d p + (grantedTo p ns + openOf s d p)) (getD (receiverOf s d .capacities) p 0)) GrantedOverCapacity p
     ∷ capacityChecks s d ns k (p + 1)
 
--- 19, 1; the reader's 3 to 13; 14 by started messages, then by the header's grant and the CrdtGrants; then 15, then 16
+-- 19, 1; the reader's 3 to 13; 14 by started messages; 21 by the header's grant and the CrdtGrants; then 15, then 16
 unfoldable pub auditChecks : Ledger → ℕ → List ℕ → List Check
 auditChecks s d c =
     check (ltb d 2 && ledgerOk s) InvalidState 0
     ∷ check (eqb (length c) containerSize) ContainerLength 0
-    ∷ checksThen (receiverOf s d) (receiverOf s (opposite d)) (stateChecks (readerOf s d) c) (begun s d c) (granted s d c)
+    ∷ checksThen (receiverOf s d) (receiverOf s (opposite d)) (readerOf s d) c
     (creditChecks s d (begun s d c) poolCount 0 ++ capacityChecks s (opposite d) (granted s d c) poolCount 0)
 
 -- the numbers of direction e and pool p behind an accepted entry of direction d

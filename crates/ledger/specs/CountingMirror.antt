@@ -5,14 +5,14 @@ use mathlib.Core.List.{List, [], _∷_, _++_}
 use lib.ListN.{getD}
 use lib.Dec.{eqb, leb}
 use Rattle.lists.specs.Pick.{pick}
-use Rattle.cause.specs.Checks.{Check, check, firstFault, whenAccepted, passes}
+use Rattle.cause.specs.Checks.{Check, check, firstFault, whenAccepted}
 use Rattle.cause.specs.declared.Cause.the-variants.{BegunOverGranted, GrantedOverCapacity}
 use Rattle.container.specs.Layout.{formatOf}
 use Rattle.container.specs.Idle.{idle}
 use Rattle.message.specs.Charges.{charges}
 use Rattle.reader.specs.Reading.{bytesIn, carried}
 use Rattle.reader.specs.declared.carry.Carry.{Carry}
-use Rattle.pools.specs.Pools.{messageChecks, chargedTo}
+use Rattle.pools.specs.Pools.{payable, chargedTo}
 use Rattle.pools.specs.Rows.{row, nested, flattened, entryOf, rows}
 use Rattle.ledger.specs.Audit.{receiverOf, readerOf, poolsOk}
 use Rattle.ledger.specs.declared.ledger.Ledger.{Ledger}
@@ -46,7 +46,7 @@ settledOpen d opened paid e p = pick (eqb e d) (getD paid p 0) (entryOf opened e
 
 -- direction d: the carried message would pass 14, and the pools are in order
 abbrev pub pooled : Ledger → ℕ → Bool
-pooled s d = passes (firstFault (messageChecks (receiverOf s d) (carried (readerOf s d)))) && poolsOk s d 14 0
+pooled s d = payable (receiverOf s d) (carried (readerOf s d)) && poolsOk s d 14 0
 
 -- an idle entry: nothing is carried in its direction, and it has nothing but zeros outside the link header
 abbrev pub idleEntry : Ledger → ℕ → List ℕ → Bool

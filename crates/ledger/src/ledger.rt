@@ -154,8 +154,7 @@ impl Ledger {
     {
         let byte0 = byte_at(carry, 0);
         let byte1 = byte_at(carry, 1);
-        let verdict = receiver.judge_payment(byte0 % 16, byte0, byte1);
-        if let Verdict::Refused(_, _) = verdict {
+        if !receiver.is_payable(byte0 % 16, byte0, byte1) {
             return false;
         }
         let held = self.held;
@@ -299,7 +298,7 @@ impl Ledger {
         }
     }
 
-    // An entry that reads: 14 by its messages and its grants, then its pools.
+    // An entry that reads: 14 by its messages and 21 by its grants, then its pools.
     fn audit_read(
         self,
         direction: usize,

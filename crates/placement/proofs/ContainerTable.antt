@@ -67,6 +67,20 @@ module _ (fm : Format) (m c : List ℕ) where
   rows-late j q (ContainerFault.many r b h) = omega arith
   rows-late j q (ContainerFault.beside g b s a h) = omega arith
 
+  -- and none has a number over 13
+  pub container-numbers : (j q : ℕ) → ContainerFault fm m c j q → j ≤ 13
+  container-numbers j q (ContainerFault.reserved h) = omega arith
+  container-numbers j q (ContainerFault.form s h) = omega arith
+  container-numbers j q (ContainerFault.inside g o n b s v) = omega arith
+  container-numbers j q (ContainerFault.unknown g b s e) = omega arith
+  container-numbers j q (ContainerFault.place g b s e) = omega arith
+  container-numbers j q (ContainerFault.head g b s e) = omega arith
+  container-numbers j q (ContainerFault.unused g i b u h) = omega arith
+  container-numbers j q (ContainerFault.gap r g h b a d l x y) = omega arith
+  container-numbers j q (ContainerFault.second r g h b a d l s x t y) = omega arith
+  container-numbers j q (ContainerFault.many r b h) = omega arith
+  container-numbers j q (ContainerFault.beside g b s a h) = omega arith
+
 module _ (fm : Format) (law : Lawful fm) (m c : List ℕ) (n256 : length c ≡ 256) (valid : carryOk m ≡ true) where
   abbrev cell : ℕ → Cell
   cell g = cellOf fm c m g

@@ -1,8 +1,8 @@
 -- The messages that start in a container, as a pass over its granules. Assumes nothing.
 use Prim.Native.Nat.{ℕ, _+_, _*_, _/_, _%_, _≤_, _<_, _^_}
 use mathlib.Core.Path.{_≡_, refl, _∙_}
-use mathlib.Core.Bool.{Bool, true, false}
-use mathlib.Core.List.{List, []}
+use mathlib.Core.Bool.{Bool, true, false, _||_, not}
+use mathlib.Core.List.{List, [], _∷_}
 use mathlib.Core.Logic.{⊎-elim}
 use native.Mathlib.Omega.{arith}
 use lib.ListN.{getD, replicate}
@@ -12,18 +12,18 @@ use Rattle.lists.specs.Parts.{IsBytes}
 use Rattle.lists.proofs.Order.{lt-or-le}
 use Rattle.lists.proofs.PickLaws.{pick-both, pick-by}
 use Rattle.cause.specs.Checks.{firstFault}
-use Rattle.cause.specs.declared.Cause.{Cause}
+use Rattle.cause.specs.declared.Cause.the-variants.{MissingPool}
 use Rattle.cause.specs.declared.Verdict.{Verdict}
 use Rattle.cause.specs.declared.Verdict.the-variants.{Accepted, Refused}
 use Rattle.container.specs.Layout.{start, bit}
 use Rattle.message.specs.Heads.{classOf}
 use Rattle.message.specs.Charges.{chargesBy}
-use Rattle.pools.specs.Pools.{paymentChecks}
+use Rattle.pools.specs.Pools.{payableBy}
 use Rattle.pools.specs.Rows.{raised}
-use Rattle.pools.specs.TalliesMirror.{firstAt, secondAt, startedAt, paidAt, startChecks, startsChecks, startsPay}
+use Rattle.pools.specs.TalliesMirror.{firstAt, secondAt, startedAt, paidAt, startCheck, startsChecks, startsPay}
 use Rattle.pools.specs.declared.receiver.Receiver.{Receiver}
-use Rattle.pools.proofs.TallyLaws.{raised-same, zero-at, zero-counts, payable, taken, taken-most}
-use Rattle.pools.proofs.PassLaws.{never-accepted, Walk, Walks, Walking}
+use Rattle.pools.proofs.TallyLaws.{raised-same, zero-at, zero-counts, all-chargeable, taken, taken-most}
+use Rattle.pools.proofs.PassLaws.{never-accepted, one-fails, one-passes, Walk, Walks, Walking}
 
 -- byte 0 of what starts in granule g is its byte times bit g
 pub bit-fits : (n w g : ℕ) → n < 256 → {b : ℕ} → b ≡ w / 2 ^ g % 2 → n * b < 2 ^ 8
@@ -42,32 +42,35 @@ started-by c w g {a} {b} ea eb =
     (λ f. let d : w / 2 ^ g % 2 ≡ 1 → ⊥ = eqb-false (w / 2 ^ g % 2) 1 f in let z : b ≡ 0 = omega arith in rw z (omega arith))
 
 -- a message is judged and counted by a byte 0 that is 0 where nothing starts
-started-checks : (t : Bool) (r : Receiver) (first second : ℕ)
-    → firstFault (paymentChecks r (pick t first 0 % 16) (pick t first 0) second) ≡ firstFault (pick t (paymentChecks r (first % 16) first second) [])
-started-checks true r first second = refl
-started-checks false r first second = refl
+started-payable : (t : Bool) (r : Receiver) (first second : ℕ)
+    → payableBy r (pick t first 0 % 16) (pick t first 0) second ≡ (not t || payableBy r (first % 16) first second)
+started-payable true r first second = refl
+started-payable false r first second = refl
 
 started-pays : (t : Bool) (first second p : ℕ)
     → taken (chargesBy (pick t first 0 % 16) (pick t first 0) second) p ≡ pick t (taken (chargesBy (first % 16) first second) p) 0
 started-pays true first second p = refl
 started-pays false first second p = refl
 
-module _ (r : Receiver) (c : List ℕ) (w g : ℕ) (l : List ℕ) {first a : ℕ} (ef : first ≡ startedAt c w g) (ea : a ≡ start g) {v : Verdict} (u : v ≡ firstFault (paymentChecks r (first % 16) first (getD c (a + 1) 0))) where
-  abbrev Charged : List ℕ → Type 0
-  Charged d = (v ≡ firstFault (startChecks r c w g)) × (v ≡ Accepted → d ≡ raised (paidAt c w g) l)
+module _ (r : Receiver) (c : List ℕ) (w g : ℕ) (l : List ℕ) {first a : ℕ} (ef : first ≡ startedAt c w g) (ea : a ≡ start g) {t : Bool} (u : t ≡ payableBy r (first % 16) first (getD c (a + 1) 0)) where
+  abbrev Charged : Verdict → List ℕ → Type 0
+  Charged v d = (v ≡ firstFault (startCheck r c w g ∷ [])) × (v ≡ Accepted → d ≡ raised (paidAt c w g) l)
 
-  judged : v ≡ firstFault (startChecks r c w g)
-  judged = u ∙ rw (ef, ea) (started-checks (bit w g) r (firstAt c g) (secondAt c g))
+  judged : t ≡ startCheck r c w g .passes
+  judged = u ∙ rw (ef, ea) (started-payable (bit w g) r (firstAt c g) (secondAt c g))
 
-  pub charge-refused : {k : Cause} {n : ℕ} → v ≡ Refused k n → {d : List ℕ} → Charged d
-  charge-refused e = (judged, λ s. absurd (never-accepted e s))
+  pub charge-refused : not t ≡ true → {d : List ℕ} → Charged (Refused MissingPool g) d
+  charge-refused n = (one-fails judged MissingPool g n, λ s. absurd (never-accepted refl s))
 
-  pub charge-added : {d : List ℕ} → d ≡ raised (taken (chargesBy (first % 16) first (getD c (a + 1) 0))) l → Charged d
-  charge-added e = (judged, λ _. e ∙ rw (ef, ea) (raised-same (taken (chargesBy (startedAt c w g % 16) (startedAt c w g) (secondAt c g))) (paidAt c w g) l (λ p _. started-pays (bit w g) (firstAt c g) (secondAt c g) p)))
+  pub charge-added : not t ≡ false → {d : List ℕ} → d ≡ raised (taken (chargesBy (first % 16) first (getD c (a + 1) 0))) l → Charged Accepted d
+  charge-added n e = (
+    one-passes judged MissingPool g n,
+    λ _. e ∙ rw (ef, ea) (raised-same (taken (chargesBy (startedAt c w g % 16) (startedAt c w g) (secondAt c g))) (paidAt c w g) l (λ p _. started-pays (bit w g) (firstAt c g) (secondAt c g) p)),
+  )
 
 module _ (r : Receiver) (c : List ℕ) (w : ℕ) where
   abbrev pub begunWalk : Walk
-  begunWalk = record { here = startChecks r c w; gain = paidAt c w; rest = startsChecks r c w; left = startsPay c w }
+  begunWalk = record { here = λ g. startCheck r c w g ∷ []; gain = paidAt c w; rest = startsChecks r c w; left = startsPay c w }
 
   pub begun-walks : Walks begunWalk
   unfolding startsChecks startsPay
@@ -83,5 +86,5 @@ module _ (r : Receiver) (c : List ℕ) (w : ℕ) where
 pub paid-most : (c : List ℕ) (w : ℕ) → IsBytes c → (g p : ℕ) → paidAt c w g p ≤ 255
 paid-most c w h g p =
     let q = chargesBy (firstAt c g % 16) (firstAt c g) (secondAt c g) in
-    let m = taken-most q (payable (firstAt c g) (secondAt c g) (h (start g)) (classOf (firstAt c g % 16))) p in
+    let m = taken-most q (all-chargeable (firstAt c g) (secondAt c g) (h (start g)) (classOf (firstAt c g % 16))) p in
     pick-both (λ (n : ℕ). n ≤ 255) (bit w g) (omega arith) (omega arith)

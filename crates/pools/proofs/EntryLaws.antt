@@ -1,13 +1,15 @@
 -- What the code judges and counts granule by granule is what the messages that start in an entry ask for. Assumes nothing.
 use Prim.Native.Nat.{ℕ, zero, suc, _+_, _%_, _≤_, _<_}
 use mathlib.Core.Path.{_≡_, refl, sym, ap, ap₂, _∙_}
-use mathlib.Core.Bool.{Bool, true, false, _&&_}
+use mathlib.Core.Bool.{Bool, true, false, _&&_, _||_, not}
 use mathlib.Core.List.{List, [], _∷_, _++_}
 use native.Mathlib.Omega.{arith}
 use native.Mathlib.Nat.{zero-add, add-zero}
 use lib.ListN.{length, getD}
 use Rattle.lists.specs.Pick.{pick}
 use Rattle.lists.proofs.PartLaws.{getD-part}
+use Rattle.cause.specs.Checks.{Check, check}
+use Rattle.cause.specs.declared.Cause.the-variants.{MissingPool, MissingGrantPool}
 use Rattle.container.specs.Layout.{formatOf, start, granule, msgStart, bit}
 use Rattle.container.specs.Grants.{grantOf}
 use Rattle.container.specs.declared.grant.Grant.{Grant}
@@ -15,7 +17,7 @@ use Rattle.container.proofs.Formats.{lawful-of}
 use Rattle.message.specs.Heads.{isMisc, miscBy, crdtGrant}
 use Rattle.message.specs.Charges.{chargesBy, listed, charges}
 use Rattle.placement.specs.Cells.{cells, cellAt, after, startings}
-use Rattle.pools.specs.Pools.{paymentChecks, messageChecks, allMessages, allGrants, grantChecks, chargedTo, paidTo, grantedBy, grantedTo, grantsIn}
+use Rattle.pools.specs.Pools.{payableBy, grantable, formIn, startPayable, startGrantable, eachGranule, chargedTo, paidTo, grantedBy, grantedTo, grantsIn}
 use Rattle.pools.specs.TalliesMirror.{firstAt, secondAt, startsChecks, startsPay, grantsAt, grantAt, crdtChecks, crdtGives}
 use Rattle.pools.specs.declared.receiver.Receiver.{Receiver}
 
@@ -45,10 +47,6 @@ module _ {A : Type 0} (op : A → A → A) (none : A) (unit : (a : A) → op non
         next k g ∙ ap₂ (λ (x y : A). op (pick t x none) y) (sym (same g (omega arith))) (along k (g + 1) n (omega arith))
         ∙ sym (one-more F h more t (granule fm g c) (startings (cells fm c k (g + 1) n)))
 
--- the grant of a message's bytes 2 to 6
-abbrev formIn : List ℕ → Grant
-formIn m = grantOf (getD m 2 0) (getD m 3 0) (getD m 4 0) (getD m 5 0) (getD m 6 0)
-
 module _ (f : ℕ) (c : List ℕ) (whole : length c ≡ 256) where
   -- the first bytes of a granule
   byte : (g : ℕ) → g < 12 → (i : ℕ) → i < 10 → getD (granule (formatOf f) g c) i 0 ≡ getD c (start g + i) 0
@@ -70,12 +68,13 @@ module _ (f : ℕ) (c : List ℕ) (whole : length c ≡ 256) where
       λ j. grantOf (byte g b 2 (omega arith) j) (byte g b 3 (omega arith) j) (byte g b 4 (omega arith) j) (byte g b 5 (omega arith) j) (byte g b 6 (omega arith) j)
 
   pub starts-checks : (r : Receiver) (k g : ℕ) (m : List ℕ) → g + k ≤ 12
-      → startsChecks r c (msgStart (formatOf f) c) k g ≡ allMessages r (startings (cells (formatOf f) c k g m))
-  unfolding startsChecks allMessages
-  starts-checks r =
-      along _++_ [] (λ a. refl) f c (allMessages r) (messageChecks r) refl (λ x l. refl)
-      (startsChecks r c (msgStart (formatOf f) c)) (λ g. paymentChecks r (firstAt c g % 16) (firstAt c g) (secondAt c g)) (λ g. refl) (λ k g. refl)
-      (by-head (λ x y. paymentChecks r (x % 16) x y))
+      → startsChecks r c (msgStart (formatOf f) c) k g ≡ eachGranule (startPayable r) MissingPool g (cells (formatOf f) c k g m)
+  unfolding startsChecks eachGranule cells
+  starts-checks r zero g m b = refl
+  starts-checks r (suc k) g m b =
+      ap₂ (λ (t : Bool) (l : List Check). check (not (bit (msgStart (formatOf f) c) g) || t) MissingPool g ∷ l)
+      (sym (by-head (λ x y. payableBy r (x % 16) x y) g (omega arith)))
+      (starts-checks r k (g + 1) (after (formatOf f) g (cellAt (formatOf f) g c m) m) (omega arith))
 
   pub starts-pay : (p k g : ℕ) (m : List ℕ) → g + k ≤ 12
       → startsPay c (msgStart (formatOf f) c) k g p ≡ paidTo p (startings (cells (formatOf f) c k g m))
@@ -99,10 +98,14 @@ module _ (f : ℕ) (c : List ℕ) (whole : length c ≡ 256) where
         (λ g b. ap₂ (λ (t : Bool) (n : Grant). pick t (h n) none) (by-head (λ x y. miscBy (x % 16) y crdtGrant) g b) (form-same g b))
 
   pub crdt-checks : (r : Receiver) (k g : ℕ) (m : List ℕ) → g + k ≤ 12
-      → crdtChecks r c (msgStart (formatOf f) c) k g ≡ allGrants r (grantsIn (startings (cells (formatOf f) c k g m)))
-  unfolding crdtChecks allGrants
-  crdt-checks r =
-      grants-along _++_ [] (λ a. refl) (allGrants r) (grantChecks r) refl (λ n l. refl) (crdtChecks r c (msgStart (formatOf f) c)) (λ g. refl) (λ k g. refl)
+      → crdtChecks r c (msgStart (formatOf f) c) k g ≡ eachGranule (startGrantable r) MissingGrantPool g (cells (formatOf f) c k g m)
+  unfolding crdtChecks eachGranule cells
+  crdt-checks r zero g m b = refl
+  crdt-checks r (suc k) g m b =
+      ap₂ _∷_
+      (ap₂ (λ (t : Bool) (n : Grant). check (not (bit (msgStart (formatOf f) c) g && t) || grantable r n) MissingGrantPool g)
+      (sym (by-head (λ x y. miscBy (x % 16) y crdtGrant) g (omega arith))) (sym (form-same g (omega arith))))
+      (crdt-checks r k (g + 1) (after (formatOf f) g (cellAt (formatOf f) g c m) m) (omega arith))
 
   pub crdt-gives : (p k g : ℕ) (m : List ℕ) → g + k ≤ 12
       → crdtGives c (msgStart (formatOf f) c) k g p ≡ grantedTo p (grantsIn (startings (cells (formatOf f) c k g m)))

@@ -1,21 +1,20 @@
 -- What grants give, and a grant that keeps the rules for pools, exactly where the tests of the checks say so. Assumes nothing.
 use Prim.Native.Nat.{ℕ, _+_, _≤_, _<_}
 use mathlib.Core.Path.{_≡_, refl}
-use mathlib.Core.Bool.{true, false, _&&_, _||_}
+use mathlib.Core.Bool.{Bool, true, false, _&&_, _||_}
 use mathlib.Core.Logic.{⊎-elim, _↔_}
 use native.Mathlib.Omega.{arith}
 use lib.Dec.{eqb, ltb}
 use borrow.Author.Tests.{ltb-true, eqb-true, eqb-false, lt-ltb, eq-eqb, ne-eqb}
 use Rattle.lists.specs.Pick.{pick}
 use Rattle.lists.proofs.Order.{lt-or-le}
-use Rattle.lists.proofs.Tests.{and-left, and-right}
-use Rattle.cause.specs.Checks.{Pass, firstFault, passes}
+use Rattle.lists.proofs.Tests.{and-left, and-right, and-both}
 use Rattle.container.specs.declared.grant.Grant.{Grant}
-use Rattle.pools.specs.Pools.{grantChecks, grantedBy}
+use Rattle.pools.specs.Pools.{grantable, grantedBy}
 use Rattle.pools.specs.PoolRules.{Gives, GrantsRight}
 use Rattle.pools.specs.PoolRules.Gives.{rsp, snp, shared-req, shared-dat, req, dat0, dat1}
 use Rattle.pools.specs.declared.receiver.Receiver.{Receiver}
-use Rattle.pools.proofs.PoolRuleLaws.{by-test, passes-exactly}
+use Rattle.pools.proofs.PoolRuleLaws.{by-test}
 
 -- what a grant gives to a pool, and nothing where it gives none
 pub gives-exactly : (n : Grant) → n .rp ≤ 7 → (p : ℕ) → p < 14 → ((k : ℕ) → Gives n p k → grantedBy p n ≡ k) × (((k : ℕ) → Gives n p k → ⊥) → grantedBy p n ≡ 0)
@@ -54,24 +53,28 @@ gives-exactly n b p h = (λ k x. given x, none)
                 (λ (z : 1 ≤ n .rp). f (n .dat) (let q : p ≡ 13 = omega arith in rw q (dat1 s (omega arith))))
                 (lt-or-le (n .rp) 1)
 
--- a grant keeps the rules for pools exactly where it passes 14
-pub grant-exactly : (r : Receiver) (n : Grant) → (passes (firstFault (grantChecks r n)) ≡ true) ↔ GrantsRight r n
-grant-exactly r n = (λ e. to (passes-exactly (grantChecks r n) .0 e), λ h. passes-exactly (grantChecks r n) .1 (from h))
+-- a grant keeps the rules for pools exactly where its pools exist
+pub grant-exactly : (r : Receiver) (n : Grant) → (grantable r n ≡ true) ↔ GrantsRight r n
+grant-exactly r n = (to, from)
   where
-    to : Pass (grantChecks r n) → GrantsRight r n
+    counted : Bool
+    counted = eqb (n .dat) 0 || (r .push && ltb (n .rp) 2)
+
+    to : grantable r n ≡ true → GrantsRight r n
     to e = record {
-      below = λ s. ltb-true (n .rp) (r .planes) (rw s at (e .0));
+      below = λ s. ltb-true (n .rp) (r .planes) (and-left (ltb (n .rp) (r .planes)) counted (own s));
       dat = λ s d.
-          let x : (r .push && ltb (n .rp) 2) ≡ true = rw (s, ne-eqb (n .dat) 0 (λ z. omega arith)) at (e .1 .0) in
+          let x : (r .push && ltb (n .rp) 2) ≡ true = rw (ne-eqb (n .dat) 0 (λ z. omega arith)) at (and-right (ltb (n .rp) (r .planes)) counted (own s)) in
           (and-left (r .push) (ltb (n .rp) 2) x, ltb-true (n .rp) 2 (and-right (r .push) (ltb (n .rp) 2) x));
     }
-
-    from : GrantsRight r n → Pass (grantChecks r n)
-    from v =
-        by-test (n .shc) (λ s. rw s (refl, (refl, tt)))
-        (λ s. (rw s (lt-ltb (n .rp) (r .planes) (v .below s)), (rw s (counted s), tt)))
       where
-        counted : n .shc ≡ false → (eqb (n .dat) 0 || (r .push && ltb (n .rp) 2)) ≡ true
-        counted s =
+        own : n .shc ≡ false → (ltb (n .rp) (r .planes) && counted) ≡ true
+        own s = rw s at e
+
+    from : GrantsRight r n → grantable r n ≡ true
+    from v = by-test (n .shc) (λ s. rw s) (λ s. rw s (and-both (ltb (n .rp) (r .planes)) counted (lt-ltb (n .rp) (r .planes) (v .below s)) (some s)))
+      where
+        some : n .shc ≡ false → counted ≡ true
+        some s =
             by-test (eqb (n .dat) 0) (λ t. rw t)
             (λ t. let x = v .dat s (omega (arith, eqb-false (n .dat) 0 t)) in rw (t, x .0) (lt-ltb (n .rp) 2 (x .1)))

@@ -2,7 +2,7 @@
 use Prim.Native.Nat.{ℕ, _+_, _%_, _≤_, _<_, _^_}
 use mathlib.Core.Path.{_≡_, refl, sym, ap, _∙_}
 use mathlib.Core.Bool.{Bool, true, false, _&&_, _||_, not}
-use mathlib.Core.List.{List, [], _++_}
+use mathlib.Core.List.{List, [], _∷_}
 use mathlib.Core.Logic.{⊎-elim}
 use native.Mathlib.Omega.{arith}
 use lib.ListN.{length, getD, replicate}
@@ -12,17 +12,18 @@ use Rattle.lists.specs.Pick.{pick}
 use Rattle.lists.specs.Parts.{IsBytes}
 use Rattle.lists.proofs.Tests.{cases, and-right}
 use Rattle.lists.proofs.PickLaws.{pick-both, pick-by}
+use Rattle.cause.specs.Causes.{headerPlace}
 use Rattle.cause.specs.Checks.{firstFault}
+use Rattle.cause.specs.declared.Cause.the-variants.{MissingGrantPool}
 use Rattle.cause.specs.declared.Verdict.{Verdict}
 use Rattle.cause.specs.declared.Verdict.the-variants.{Accepted}
-use Rattle.cause.proofs.CheckLaws.{accepted-pass}
 use Rattle.container.specs.Layout.{start, bit}
 use Rattle.container.specs.Grants.{grantOf}
 use Rattle.container.specs.declared.grant.Grant.{Grant}
 use Rattle.message.specs.Heads.{miscBy, crdtGrant}
-use Rattle.pools.specs.Pools.{grantChecks, grantedBy}
+use Rattle.pools.specs.Pools.{grantable, grantedBy}
 use Rattle.pools.specs.Rows.{raised}
-use Rattle.pools.specs.TalliesMirror.{firstAt, secondAt, startedAt, grantsAt, grantAt, crdtChecks, crdtGives, Tallied}
+use Rattle.pools.specs.TalliesMirror.{firstAt, secondAt, startedAt, grantsAt, grantAt, grantCheck, crdtCheck, crdtChecks, crdtGives, Tallied}
 use Rattle.pools.specs.declared.tally.Tally.{Tally}
 use Rattle.pools.specs.declared.receiver.Receiver.{Receiver}
 use Rattle.pools.proofs.RowLaws.{row-at}
@@ -165,14 +166,14 @@ module _ (n : Grant) (l : List ℕ) (counts : Counts 65535 l) (b : Bytes n) (pla
             ∙ raised-twice f₄ (λ p. (f₁ p + f₂ p) + f₃ p) l
             ∙ raised-same (λ p. ((f₁ p + f₂ p) + f₃ p) + f₄ p) (λ p. grantedBy p n) l (λ p _. rw (eq, ek) (given-by n p plane h))
 
--- a grant that is judged sound has a pool for its DAT count
-pub accepted-pooled : (r : Receiver) (n : Grant) → firstFault (grantChecks r n) ≡ Accepted → datPooled n ≡ true
-accepted-pooled r n e = weaker (n .shc) (eqb (n .dat) 0) (r .push) (ltb (n .rp) 2) (accepted-pass (grantChecks r n) e .1 .0)
+-- a grant whose pools exist has one for its DAT count
+pub grantable-pooled : (r : Receiver) (n : Grant) → grantable r n ≡ true → datPooled n ≡ true
+grantable-pooled r n = weaker (n .shc) (ltb (n .rp) (r .planes)) (eqb (n .dat) 0) (r .push) (ltb (n .rp) 2)
   where
-    weaker : (a b c d : Bool) → (a || (b || (c && d))) ≡ true → (a || (b || d)) ≡ true
-    weaker true b c d h = refl
-    weaker false true c d h = refl
-    weaker false false c d h = and-right c d h
+    weaker : (a x b c d : Bool) → (a || (x && (b || (c && d)))) ≡ true → (a || (b || d)) ≡ true
+    weaker true x b c d h = refl
+    weaker false x true c d h = refl
+    weaker false x false c d h = and-right c d (and-right x (c && d) h)
 
 -- a CrdtGrant, by a byte 0 that is 0 where nothing starts
 started-misc : (t : Bool) (first second : ℕ) → miscBy (pick t first 0 % 16) second crdtGrant ≡ (t && miscBy (first % 16) second crdtGrant)
@@ -183,7 +184,7 @@ started-misc false first second = refl
 module _ (r : Receiver) (c : List ℕ) (w g : ℕ) (l : List ℕ) {first a : ℕ} (ef : first ≡ startedAt c w g) (ea : a ≡ start g) {m : Bool} (em : m ≡ miscBy (first % 16) (getD c (a + 1) 0) crdtGrant) where
   abbrev Passed : Verdict → List ℕ → Type 0
   Passed v d =
-      (v ≡ firstFault (pick (grantsAt c w g) (grantChecks r (grantAt c g)) []))
+      (v ≡ firstFault (crdtCheck r c w g ∷ []))
       × (v ≡ Accepted → d ≡ raised (λ p. pick (grantsAt c w g) (grantedBy p (grantAt c g)) 0) l)
 
   abbrev gives : ℕ → ℕ
@@ -193,14 +194,14 @@ module _ (r : Receiver) (c : List ℕ) (w g : ℕ) (l : List ℕ) {first a : ℕ
   misc-is = em ∙ rw (ef, ea) (started-misc (bit w g) (firstAt c g) (secondAt c g))
 
   pub no-grant : not m ≡ true → length l ≡ 14 → Passed Accepted l
-  no-grant t = passed-over (grantsAt c w g) (grantChecks r (grantAt c g)) gives l (sym misc-is ∙ not-true m t)
+  no-grant t = passed-over (grantsAt c w g) (grantable r (grantAt c g)) MissingGrantPool g gives l (sym misc-is ∙ not-true m t)
 
   pub some-grant : not m ≡ false → {n : Grant} → n ≡ grantOf (getD c (a + 2) 0) (getD c (a + 3) 0) (getD c (a + 4) 0) (getD c (a + 5) 0) (getD c (a + 6) 0)
-      → {v : Verdict} {d : List ℕ} → v ≡ firstFault (grantChecks r n) → (v ≡ Accepted → d ≡ raised (λ p. grantedBy p n) l) → Passed v d
+      → {v : Verdict} {d : List ℕ} → v ≡ firstFault (grantCheck r n g ∷ []) → (v ≡ Accepted → d ≡ raised (λ p. grantedBy p n) l) → Passed v d
   some-grant t {n} en u x =
       let e : n ≡ grantAt c g = en ∙ ap (λ (i : ℕ). grantOf (getD c (i + 2) 0) (getD c (i + 3) 0) (getD c (i + 4) 0) (getD c (i + 5) 0) (getD c (i + 6) 0)) ea in
-      passed (grantsAt c w g) (grantChecks r (grantAt c g)) gives l (sym misc-is ∙ not-false m t)
-      (u ∙ ap (λ (y : Grant). firstFault (grantChecks r y)) e)
+      passed (grantsAt c w g) (grantable r (grantAt c g)) MissingGrantPool g gives l (sym misc-is ∙ not-false m t)
+      (u ∙ ap (λ (y : Grant). firstFault (grantCheck r y g ∷ [])) e)
       (λ q. x q ∙ ap (λ (y : Grant). raised (λ p. grantedBy p y) l) e)
 
 pub form-plane : (a req rsp snp dat : ℕ) {n : Grant} → n ≡ grantOf a req rsp snp dat → n .rp < 8
@@ -210,7 +211,7 @@ form-plane a req rsp snp dat e = omega (arith, ap (λ (x : Grant). x .rp) e)
 module _ (r : Receiver) (c : List ℕ) (w : ℕ) where
   abbrev pub grantedWalk : Walk
   grantedWalk = record {
-    here = λ g. pick (grantsAt c w g) (grantChecks r (grantAt c g)) [];
+    here = λ g. crdtCheck r c w g ∷ [];
     gain = λ g p. pick (grantsAt c w g) (grantedBy p (grantAt c g)) 0;
     rest = crdtChecks r c w;
     left = crdtGives c w;
@@ -244,8 +245,8 @@ module _ (r : Receiver) (c : List ℕ) (w : ℕ) where
       pub granted-starts : Bytes n → Granting l 0
       granted-starts b = record { within = omega arith; few = counts-raised (λ p. grantedBy p n) (zero-counts 0) (given-most n b) el; same = refl; sums = λ p k. refl }
 
-      pub all-granted : {v : Verdict} → v ≡ firstFault (grantChecks r n) → v ≡ Accepted → {t : Tally} → Tallied (crdtChecks r c w 12 0) givesAll t
-          → Tallied (grantChecks r n ++ crdtChecks r c w 12 0) (λ p. grantedBy p n + crdtGives c w 12 0 p) t
+      pub all-granted : {v : Verdict} → v ≡ firstFault (grantCheck r n headerPlace ∷ []) → v ≡ Accepted → {t : Tally} → Tallied (crdtChecks r c w 12 0) givesAll t
+          → Tallied (grantCheck r n headerPlace ∷ crdtChecks r c w 12 0) (λ p. grantedBy p n + crdtGives c w 12 0 p) t
       all-granted u s =
-          tallied-behind (grantChecks r n) (crdtChecks r c w 12 0) u s givesAll (λ p. grantedBy p n + crdtGives c w 12 0 p)
+          tallied-behind (grantCheck r n headerPlace ∷ []) (crdtChecks r c w 12 0) u s givesAll (λ p. grantedBy p n + crdtGives c w 12 0 p)
           (λ p b. ap (λ (x : ℕ). x + crdtGives c w 12 0 p) (ap (λ (d : List ℕ). getD d p 0) (el ∙ raised-zeros (λ i. grantedBy i n)) ∙ row-at (λ i. grantedBy i n) p b))

@@ -12,3 +12,5 @@ pub mod BegunLaws
 pub mod GrantedLaws
 pub mod EntryLaws
 pub mod PoolFaults
+pub mod GranuleLaws
+pub mod KeepsPoolsLaws

@@ -1,13 +1,14 @@
 -- A pass over twelve granules, each judged and then counted by pool. Assumes nothing.
 use Prim.Native.Nat.{ℕ, suc, _+_, _-_, _*_, _≤_, _<_}
 use mathlib.Core.Path.{_≡_, sym, ap, _∙_}
-use mathlib.Core.Bool.{Bool, true, false}
-use mathlib.Core.List.{List, [], _++_}
+use mathlib.Core.Bool.{Bool, true, false, _||_, not}
+use mathlib.Core.List.{List, [], _∷_, _++_}
 use native.Mathlib.Omega.{arith}
 use lib.ListN.{length, getD, replicate}
-use borrow.Author.Tests.{eq-eqb, ne-eqb, lt-ltb, le-ltb}
+use borrow.Author.Tests.{eq-eqb, ne-eqb, lt-ltb, le-ltb, not-true, not-false}
 use Rattle.lists.specs.Pick.{pick}
-use Rattle.cause.specs.Checks.{Check, firstFault, orElse, whenAccepted}
+use Rattle.cause.specs.Causes.{headerPlace}
+use Rattle.cause.specs.Checks.{Check, check, firstFault, orElse, whenAccepted}
 use Rattle.container.specs.declared.grant.Grant.{Grant}
 use Rattle.cause.specs.declared.Cause.{Cause}
 use Rattle.cause.specs.declared.Cause.the-variants.{ContainerLength, HeaderGrantForm}
@@ -15,8 +16,7 @@ use Rattle.cause.specs.declared.Verdict.{Verdict}
 use Rattle.cause.specs.declared.Verdict.the-variants.{Accepted, Refused}
 use Rattle.cause.proofs.CheckLaws.{first-append}
 use Rattle.pools.specs.Rows.{raised, Small, row}
-use Rattle.pools.specs.Pools.{grantChecks}
-use Rattle.pools.specs.TalliesMirror.{startsChecks, startsPay, crdtChecks, Tallied}
+use Rattle.pools.specs.TalliesMirror.{startsChecks, startsPay, grantCheck, crdtChecks, Tallied}
 use Rattle.pools.specs.Tallies.{tallyOf, begunChecks, begunTally, grantsGive, grantedChecks, grantedTally}
 use Rattle.pools.specs.declared.receiver.Receiver.{Receiver}
 use Rattle.pools.specs.declared.tally.Tally.{Tally}
@@ -41,13 +41,22 @@ module _ (a b : List Check) {v : Verdict} (u : v ≡ firstFault a) where
   pub tallied-behind : v ≡ Accepted → (f g : ℕ → ℕ) → ((p : ℕ) → p < 14 → f p ≡ g p) → {r : Tally} → Tallied b f r → Tallied (a ++ b) g r
   tallied-behind s f g h t = record { verdict = t .verdict ∙ sym (goes-behind s); counts = λ z. t .counts z ∙ row-equal f g h }
 
+-- one check, by its test
+module _ {t b : Bool} (e : t ≡ b) (k : Cause) (p : ℕ) where
+  pub one-fails : not t ≡ true → Refused k p ≡ firstFault (check b k p ∷ [])
+  one-fails n = rw (← e, not-true t n)
+
+  pub one-passes : not t ≡ false → Accepted ≡ firstFault (check b k p ∷ [])
+  one-passes n = rw (← e, not-false t n)
+
 -- what is judged and counted only where a test holds
-module _ (t : Bool) (ks : List Check) (f : ℕ → ℕ) (l : List ℕ) where
-  pub passed-over : t ≡ false → length l ≡ 14 → (Accepted ≡ firstFault (pick t ks [])) × (Accepted ≡ Accepted → l ≡ raised (λ p. pick t (f p) 0) l)
+module _ (t b : Bool) (k : Cause) (g : ℕ) (f : ℕ → ℕ) (l : List ℕ) where
+  pub passed-over : t ≡ false → length l ≡ 14
+      → (Accepted ≡ firstFault (check (not t || b) k g ∷ [])) × (Accepted ≡ Accepted → l ≡ raised (λ p. pick t (f p) 0) l)
   passed-over e n = (rw e, λ _. rw e (raised-none l n))
 
-  pub passed : t ≡ true → {v : Verdict} {d : List ℕ} → v ≡ firstFault ks → (v ≡ Accepted → d ≡ raised f l)
-      → (v ≡ firstFault (pick t ks [])) × (v ≡ Accepted → d ≡ raised (λ p. pick t (f p) 0) l)
+  pub passed : t ≡ true → {v : Verdict} {d : List ℕ} → v ≡ firstFault (check b k g ∷ []) → (v ≡ Accepted → d ≡ raised f l)
+      → (v ≡ firstFault (check (not t || b) k g ∷ [])) × (v ≡ Accepted → d ≡ raised (λ p. pick t (f p) 0) l)
   passed e u w = (rw e u, λ s. rw e (w s))
 
 -- the checks of each granule and what it gives to each pool, and both of k granules from g on
@@ -156,7 +165,7 @@ module _ (r : Receiver) (c : List ℕ) (w : ℕ) where
 
   module _ (n : Grant) where
     abbrev passChecks : List Check
-    passChecks = grantChecks r n ++ crdtChecks r c w 12 0
+    passChecks = grantCheck r n headerPlace ∷ crdtChecks r c w 12 0
 
     pub granted-short : (length c ≡ 256 → ⊥) → record { verdict = Refused ContainerLength 0; counts = replicate 14 0 } ≡ grantedTally r n c w
     granted-short h = rw (ne-eqb (length c) 256 h)

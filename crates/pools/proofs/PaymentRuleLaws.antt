@@ -11,7 +11,6 @@ use Rattle.lists.specs.Pick.{pick}
 use Rattle.lists.proofs.PickLaws.{pick-both}
 use Rattle.lists.proofs.Tables.{below, below-at}
 use Rattle.lists.proofs.Tests.{true-T, T-true, and-left, and-right, and-both}
-use Rattle.cause.specs.Checks.{Pass, firstFault, passes}
 use Rattle.message.specs.Heads.{classOf}
 use Rattle.message.specs.HeadRules.{byte, type, among}
 use Rattle.message.specs.Charges.{charges, sharedCrdt, reqPool, datPool, pushPool, oneOf, paidBy, listed}
@@ -20,12 +19,12 @@ use Rattle.message.specs.Kinds as kinds
 use Rattle.message.specs.declared.heads.Class.{Class}
 use Rattle.message.specs.declared.heads.Class.the-variants.{Unknown, Request, Response, Snoop, Data, RequestData, Misc}
 use Rattle.message.proofs.HeadRuleLaws.{each-of, guarded}
-use Rattle.pools.specs.Pools.{hasPool, paysReq, paysData, paysPush, messageChecks, chargedTo}
+use Rattle.pools.specs.Pools.{hasPool, paysReq, paysData, paysPush, payable, chargedTo}
 use Rattle.pools.specs.PoolRules.{Exists, Shared, plane, SharedPush, PaysReq, IsData, IsPush, Pays, PaysRight}
 use Rattle.pools.specs.PoolRules.Exists.{always, req-plane}
 use Rattle.pools.specs.PoolRules.Pays.{shared-req, req, rsp, snp, shared-dat, dat, shared-push, push}
 use Rattle.pools.specs.declared.receiver.Receiver.{Receiver}
-use Rattle.pools.proofs.PoolRuleLaws.{by-test, passes-exactly, exists-exactly}
+use Rattle.pools.proofs.PoolRuleLaws.{by-test, exists-exactly}
 
 -- ---- what messages pay
 
@@ -198,17 +197,27 @@ module _ (r : Receiver) (m : List ℕ) (b : byte m 0 < 256) where
   abbrev push-fits : Bool
   push-fits = r .push && (eqb (byte m 1 % 2) 1 || hasPool r 13)
 
-  pub payment-exactly : (passes (firstFault (messageChecks r m)) ≡ true) ↔ PaysRight r m
-  payment-exactly = (λ e. to (passes-exactly (messageChecks r m) .0 e), λ h. passes-exactly (messageChecks r m) .1 (from h))
+  -- its three tests
+  abbrev planes : Bool
+  planes = not (paysReq (classOf (type m))) || fits
+
+  abbrev datas : Bool
+  datas = not (paysData (classOf (type m))) || data-fits
+
+  abbrev pushes : Bool
+  pushes = not (paysPush (classOf (type m))) || push-fits
+
+  pub payment-exactly : (payable r m ≡ true) ↔ PaysRight r m
+  payment-exactly = (to, from)
     where
-      to : Pass (messageChecks r m) → PaysRight r m
+      to : payable r m ≡ true → PaysRight r m
       to e = record { below = below-planes; needs = λ h. and-left (r .push) (eqb (byte m 1 % 2) 1 || hasPool r 13) (pushing h); pools = λ p k x. existing x }
         where
           below-planes : PaysReq m → plane m < r .planes
-          below-planes h = ltb-true (plane m) (r .planes) (T-true fits (guarded (paysReq (classOf (type m))) fits .0 (e .0) (subst T (req-class m) h)))
+          below-planes h = ltb-true (plane m) (r .planes) (T-true fits (guarded (paysReq (classOf (type m))) fits .0 (and-left planes (datas && pushes) e) (subst T (req-class m) h)))
 
           pushing : IsPush m → push-fits ≡ true
-          pushing h = T-true push-fits (guarded (paysPush (classOf (type m))) push-fits .0 (e .1 .1 .0) (subst T (push-class m) h))
+          pushing h = T-true push-fits (guarded (paysPush (classOf (type m))) push-fits .0 (and-right datas pushes (and-right planes (datas && pushes) e)) (subst T (push-class m) h))
 
           existing : {p k : ℕ} → Pays m p k → Exists r p
           existing (shared-req h s) = always tt
@@ -217,20 +226,19 @@ module _ (r : Receiver) (m : List ℕ) (b : byte m 0 < 256) where
           existing (snp h) = always tt
           existing (shared-dat h s) = always tt
           existing (dat h s) =
-              let t = T-true data-fits (guarded (paysData (classOf (type m))) data-fits .0 (e .1 .0) (subst T (data-class m) h)) in
+              let t = T-true data-fits (guarded (paysData (classOf (type m))) data-fits .0 (and-left datas pushes (and-right planes (datas && pushes) e)) (subst T (data-class m) h)) in
               exists-exactly r 12 .0 (rw (not-shared m s) at t)
           existing (shared-push h s) = always tt
           existing (push h s) =
               exists-exactly r 13 .0 (rw (not-push m s) at (and-right (r .push) (eqb (byte m 1 % 2) 1 || hasPool r 13) (pushing h)))
 
-      from : PaysRight r m → Pass (messageChecks r m)
-      from v = (
-        guarded (paysReq (classOf (type m))) fits .1 (λ h. true-T fits (lt-ltb (plane m) (r .planes) (v .below (subst T (sym (req-class m)) h)))),
-        (
-          guarded (paysData (classOf (type m))) data-fits .1 (λ h. true-T data-fits (data-right (subst T (sym (data-class m)) h))),
-          (guarded (paysPush (classOf (type m))) push-fits .1 (λ h. true-T push-fits (push-right (subst T (sym (push-class m)) h))), tt),
-        ),
-      )
+      from : PaysRight r m → payable r m ≡ true
+      from v =
+          and-both planes (datas && pushes)
+          (guarded (paysReq (classOf (type m))) fits .1 (λ h. true-T fits (lt-ltb (plane m) (r .planes) (v .below (subst T (sym (req-class m)) h)))))
+          (and-both datas pushes
+          (guarded (paysData (classOf (type m))) data-fits .1 (λ h. true-T data-fits (data-right (subst T (sym (data-class m)) h))))
+          (guarded (paysPush (classOf (type m))) push-fits .1 (λ h. true-T push-fits (push-right (subst T (sym (push-class m)) h)))))
         where
           data-right : IsData m → data-fits ≡ true
           data-right h =

@@ -2,7 +2,7 @@
 use Prim.Native.Nat.{ℕ, zero, suc, _+_, _-_, _<_}
 use mathlib.Core.Path.{_≡_, refl, sym, ap, _∙_, subst}
 use mathlib.Core.Bool.{Bool, true, false, _&&_, _||_}
-use mathlib.Core.List.{List, [], _∷_}
+use mathlib.Core.List.{[], _∷_}
 use mathlib.Core.Logic.{⊎-elim, _↔_}
 use native.Mathlib.Omega.{arith}
 use lib.Dec.{T, eqb, ltb, leb}
@@ -10,10 +10,6 @@ use borrow.Author.Tests.{ltb-true, leb-true, eqb-true, le-leb, eq-eqb}
 use Rattle.lists.specs.Pick.{pick}
 use Rattle.lists.proofs.Tables.{below-at}
 use Rattle.lists.proofs.Tests.{cases, never-both, T-true, and-left, and-right, and-both, or-cases}
-use Rattle.cause.specs.Checks.{Check, Pass, firstFault, passes}
-use Rattle.cause.specs.declared.Verdict.{Verdict}
-use Rattle.cause.specs.declared.Verdict.the-variants.{Accepted, Refused}
-use Rattle.cause.proofs.CheckLaws.{accepted-pass, pass-accepted}
 use Rattle.message.specs.HeadRules.{among}
 use Rattle.message.proofs.HeadRuleLaws.{each-of}
 use Rattle.pools.specs.Pools.{hasPool, capacityOk, capacitiesOk, receiverOk}
@@ -26,14 +22,6 @@ use Rattle.pools.specs.declared.receiver.Receiver.{Receiver}
 -- by a test that holds or fails
 pub by-test : (t : Bool) {P : Type 0} → (t ≡ true → P) → (t ≡ false → P) → P
 by-test t f g = ⊎-elim f g (cases t)
-
--- every check passes exactly where the first fault is none
-pub passes-exactly : (l : List Check) → (passes (firstFault l) ≡ true) ↔ Pass l
-passes-exactly l = (λ e. accepted-pass l (sound (firstFault l) e), λ h. rw (pass-accepted l h))
-  where
-    sound : (v : Verdict) → passes v ≡ true → v ≡ Accepted
-    sound Accepted e = refl
-    sound (Refused k p) e = absurd (never-both refl e)
 
 -- ---- the pools of a receiver
 module _ (r : Receiver) where

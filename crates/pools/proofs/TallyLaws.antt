@@ -97,10 +97,10 @@ pub record Chargeable (a : Charge) : Type 0 where
   pub pooled : a .pool < 14
   pub little : a .amount ≤ 1
 
-abbrev pub Payable : Charges → Type 0
-Payable Free = Unit {0}
-Payable (One a) = Chargeable a
-Payable (Two a b) = Chargeable a × Chargeable b
+abbrev pub AllChargeable : Charges → Type 0
+AllChargeable Free = Unit {0}
+AllChargeable (One a) = Chargeable a
+AllChargeable (Two a b) = Chargeable a × Chargeable b
 
 one-of : (p : ℕ) → p < 14 → Chargeable (oneOf p)
 one-of p b = record { pooled = b; little = omega arith }
@@ -116,14 +116,14 @@ module _ (first second : ℕ) (byte : first < 256) where
   push : Chargeable (oneOf (pushPool second))
   push = one-of (pushPool second) (pick-both (λ (p : ℕ). p < 14) (eqb (second % 2) 1) (omega arith) (omega arith))
 
-  pub payable : (k : Class) → Payable (paidBy k first second)
-  payable Unknown = tt
-  payable Request = req
-  payable Response = one-of 9 (omega arith)
-  payable Snoop = one-of 10 (omega arith)
-  payable Data = dat
-  payable RequestData = (req, push)
-  payable Misc = tt
+  pub all-chargeable : (k : Class) → AllChargeable (paidBy k first second)
+  all-chargeable Unknown = tt
+  all-chargeable Request = req
+  all-chargeable Response = one-of 9 (omega arith)
+  all-chargeable Snoop = one-of 10 (omega arith)
+  all-chargeable Data = dat
+  all-chargeable RequestData = (req, push)
+  all-chargeable Misc = tt
 
 -- what charges take of a pool
 abbrev pub taken : Charges → ℕ → ℕ
@@ -132,7 +132,7 @@ taken q p = chargedTo p (listed q)
 charge-most : (a : Charge) (p : ℕ) → Chargeable a → oneMore (a .pool) (a .amount) p ≤ 1
 charge-most a p h = pick-both (λ (n : ℕ). n ≤ 1) (eqb (a .pool) p) (h .little) (omega arith)
 
-pub taken-most : (q : Charges) → Payable q → (p : ℕ) → taken q p ≤ 2
+pub taken-most : (q : Charges) → AllChargeable q → (p : ℕ) → taken q p ≤ 2
 taken-most Free h p = omega arith
 taken-most (One a) h p = omega (arith, charge-most a p h)
 taken-most (Two a b) h p = omega (arith, charge-most a p (h .0), charge-most b p (h .1))
@@ -145,20 +145,20 @@ module _ (q : Charges) (l : List ℕ) (long : length l ≡ 14) (small : Small l)
   counts : Counts 65535 l
   counts = record { long = long; most = small }
 
-  pub pay-fits : (a : Charge) → q ≡ One a → Payable q → ((length l ≡ 14) × (a .pool < 14)) × (getD l (a .pool) 0 + a .amount < 2 ^ 32)
+  pub pay-fits : (a : Charge) → q ≡ One a → AllChargeable q → ((length l ≡ 14) × (a .pool < 14)) × (getD l (a .pool) 0 + a .amount < 2 ^ 32)
   pay-fits a e h = let k : Chargeable a = rw e at h in one-fits (a .pool) (a .amount) counts (k .pooled) (omega (arith, k .little))
 
   pub pay-one : (a : Charge) → q ≡ One a → (d : List ℕ) → d ≡ raised (oneMore (a .pool) (a .amount)) l → d ≡ raised (taken q) l
   pay-one a e d u = u ∙ rw e (raised-same (oneMore (a .pool) (a .amount)) (taken (One a)) l (λ p b. omega arith))
 
   module _ (a b : Charge) (e : q ≡ Two a b) where
-    pub pay-first : Payable q → ((length l ≡ 14) × (a .pool < 14)) × (getD l (a .pool) 0 + a .amount < 2 ^ 32)
+    pub pay-first : AllChargeable q → ((length l ≡ 14) × (a .pool < 14)) × (getD l (a .pool) 0 + a .amount < 2 ^ 32)
     pay-first h =
         let k : Chargeable a × Chargeable b = rw e at h in
         one-fits (a .pool) (a .amount) counts (k .0 .pooled) (omega (arith, k .0 .little))
 
     module _ (d : List ℕ) (u : d ≡ raised (oneMore (a .pool) (a .amount)) l) where
-      pub pay-second : Payable q → ((length d ≡ 14) × (b .pool < 14)) × (getD d (b .pool) 0 + b .amount < 2 ^ 32)
+      pub pay-second : AllChargeable q → ((length d ≡ 14) × (b .pool < 14)) × (getD d (b .pool) 0 + b .amount < 2 ^ 32)
       pay-second h =
           let k : Chargeable a × Chargeable b = rw e at h in
           one-fits (b .pool) (b .amount) (counts-one (a .pool) (a .amount) 1 counts (k .0 .little) u) (k .1 .pooled) (omega (arith, k .1 .little))

@@ -5,8 +5,10 @@ use mathlib.Core.List.{List, [], _∷_, _++_}
 use lib.ListN.{getD}
 use lib.Dec.{eqb, ltb, leb}
 use Rattle.lists.specs.Pick.{pick}
+use Rattle.cause.specs.Causes.{headerPlace}
 use Rattle.cause.specs.Checks.{Check, check}
-use Rattle.cause.specs.declared.Cause.the-variants.{MissingPool}
+use Rattle.cause.specs.declared.Cause.{Cause}
+use Rattle.cause.specs.declared.Cause.the-variants.{MissingPool, MissingGrantPool}
 use Rattle.container.specs.Grants.{grantOf}
 use Rattle.container.specs.declared.grant.Grant.{Grant}
 use Rattle.message.specs.Heads.{typeOf, classOf, isMisc, crdtGrant}
@@ -14,6 +16,7 @@ use Rattle.message.specs.Charges.{sharedCrdt, resPlane, charges, sharedReq, rsp
 use Rattle.message.specs.declared.heads.Class.{Class}
 use Rattle.message.specs.declared.heads.Class.the-variants.{Unknown, Request, Response, Snoop, Data, RequestData, Misc}
 use Rattle.message.specs.declared.charge.Charge.{Charge}
+use Rattle.placement.specs.Cells.{Cell}
 use Rattle.pools.specs.declared.receiver.Receiver.{Receiver}
 
 -- the pools of a direction, the most planes of a receiver, and the largest capacity
@@ -73,33 +76,44 @@ paysPush Data = false
 paysPush RequestData = true
 paysPush Misc = false
 
--- cause 14 of a message, REQ before DAT, by its type and its bytes 0 and 1: ResPlane is below N even where shared credit pays; a dedicated
--- DAT charge needs its pool; a WrReqData needs push
-abbrev pub paymentChecks : Receiver → ℕ → ℕ → ℕ → List Check
-paymentChecks r t byte0 byte1 =
-    check (not (paysReq (classOf t)) || ltb (resPlane byte0) (r .planes)) MissingPool (1 + resPlane byte0)
-    ∷ check (not (paysData (classOf t)) || (sharedCrdt byte0 || hasPool r dataDat)) MissingPool dataDat
-    ∷ check (not (paysPush (classOf t)) || (r .push && (eqb (byte1 % 2) 1 || hasPool r pushDat))) MissingPool pushDat
-    ∷ []
+-- the pools of a message exist, by its type and its bytes 0 and 1: ResPlane is below N even where shared credit pays; a dedicated DAT charge
+-- needs its pool; a WrReqData needs push
+abbrev pub payableBy : Receiver → ℕ → ℕ → ℕ → Bool
+payableBy r t byte0 byte1 =
+    (not (paysReq (classOf t)) || ltb (resPlane byte0) (r .planes))
+    && ((not (paysData (classOf t)) || (sharedCrdt byte0 || hasPool r dataDat))
+    && (not (paysPush (classOf t)) || (r .push && (eqb (byte1 % 2) 1 || hasPool r pushDat))))
 
-abbrev pub messageChecks : Receiver → List ℕ → List Check
-messageChecks r m = paymentChecks r (typeOf m) (getD m 0 0) (getD m 1 0)
+abbrev pub payable : Receiver → List ℕ → Bool
+payable r m = payableBy r (typeOf m) (getD m 0 0) (getD m 1 0)
 
--- cause 14 of a grant, plane before DAT: with ShC 0, RP is below N whatever the counts, and a nonzero DAT count needs push and RP 0 or 1
-abbrev pub grantChecks : Receiver → Grant → List Check
-grantChecks r n =
-    check (n .shc || ltb (n .rp) (r .planes)) MissingPool (1 + n .rp)
-    ∷ check (n .shc || (eqb (n .dat) 0 || (r .push && ltb (n .rp) 2))) MissingPool (pick (eqb (n .rp) 0) dataDat pushDat)
-    ∷ []
+-- the pools of a grant exist: with ShC 0, RP is below N whatever the counts, and a nonzero DAT count needs push and RP 0 or 1
+abbrev pub grantable : Receiver → Grant → Bool
+grantable r n = n .shc || (ltb (n .rp) (r .planes) && (eqb (n .dat) 0 || (r .push && ltb (n .rp) 2)))
 
--- in granule order
-unfoldable pub allMessages : Receiver → List (List ℕ) → List Check
-allMessages r [] = []
-allMessages r (m ∷ ms) = messageChecks r m ++ allMessages r ms
+-- the grant of a CrdtGrant: bytes 2-6 are a grant form
+abbrev pub formIn : List ℕ → Grant
+formIn m = grantOf (getD m 2 0) (getD m 3 0) (getD m 4 0) (getD m 5 0) (getD m 6 0)
 
-unfoldable pub allGrants : Receiver → List Grant → List Check
-allGrants r [] = []
-allGrants r (n ∷ ns) = grantChecks r n ++ allGrants r ns
+-- a message that starts in a cell finds its pools, and so does the grant of a CrdtGrant that starts there
+abbrev pub startPayable : Receiver → Cell → Bool
+startPayable r e = not (e .starts) || payable r (e .bytes)
+
+abbrev pub startGrantable : Receiver → Cell → Bool
+startGrantable r e = not (e .starts && isMisc (e .bytes) crdtGrant) || grantable r (formIn (e .bytes))
+
+-- one check of each granule, from g on
+unfoldable pub eachGranule : (Cell → Bool) → Cause → ℕ → List Cell → List Check
+eachGranule test k g [] = []
+eachGranule test k g (e ∷ es) = check (test e) k g ∷ eachGranule test k (g + 1) es
+
+-- 14, by the receiver of the direction: the messages that start, in granule order
+abbrev pub messageChecks : Receiver → List Cell → List Check
+messageChecks r es = eachGranule (startPayable r) MissingPool 0 es
+
+-- 21, by the receiver of the opposite direction: the header's grant n, then the CrdtGrants, in granule order
+abbrev pub grantChecks : Receiver → Grant → List Cell → List Check
+grantChecks r n es = check (grantable r n) MissingGrantPool headerPlace ∷ eachGranule (startGrantable r) MissingGrantPool 0 es
 
 -- what charges take of pool p
 abbrev pub chargedTo : ℕ → List Charge → ℕ
@@ -124,8 +138,7 @@ unfoldable pub grantedTo : ℕ → List Grant → ℕ
 grantedTo p [] = 0
 grantedTo p (n ∷ ns) = grantedBy p n + grantedTo p ns
 
--- the grants of the CrdtGrants among messages: bytes 2-6 are a grant form
+-- the grants of the CrdtGrants among messages
 unfoldable pub grantsIn : List (List ℕ) → List Grant
 grantsIn [] = []
-grantsIn (m ∷ ms) =
-    pick (isMisc m crdtGrant) (grantOf (getD m 2 0) (getD m 3 0) (getD m 4 0) (getD m 5 0) (getD m 6 0) ∷ []) [] ++ grantsIn ms
+grantsIn (m ∷ ms) = pick (isMisc m crdtGrant) (formIn m ∷ []) [] ++ grantsIn ms

@@ -1,19 +1,20 @@
 -- A mirror of the code's shape, not a rule: what is counted of an entry granule by granule, proved equal to the definitions of `Pools`.
 use Prim.Native.Nat.{ℕ, zero, suc, _+_, _%_}
 use mathlib.Core.Path.{_≡_}
-use mathlib.Core.Bool.{Bool, _&&_}
-use mathlib.Core.List.{List, [], _++_}
+use mathlib.Core.Bool.{Bool, _&&_, _||_, not}
+use mathlib.Core.List.{List, [], _∷_}
 use lib.ListN.{getD}
 use lib.Dec.{eqb, ltb, leb}
 use Rattle.lists.specs.Pick.{pick}
-use Rattle.cause.specs.Checks.{Check, firstFault}
+use Rattle.cause.specs.Checks.{Check, check, firstFault}
+use Rattle.cause.specs.declared.Cause.the-variants.{MissingPool, MissingGrantPool}
 use Rattle.cause.specs.declared.Verdict.the-variants.{Accepted}
 use Rattle.container.specs.Layout.{start, bit}
 use Rattle.container.specs.Grants.{grantOf}
 use Rattle.container.specs.declared.grant.Grant.{Grant}
 use Rattle.message.specs.Heads.{miscBy, crdtGrant}
 use Rattle.message.specs.Charges.{reqPool, datPool, chargesBy, listed}
-use Rattle.pools.specs.Pools.{paymentChecks, chargedTo, grantChecks, grantedBy}
+use Rattle.pools.specs.Pools.{payableBy, chargedTo, grantable, grantedBy}
 use Rattle.pools.specs.Rows.{row}
 use Rattle.pools.specs.declared.receiver.Receiver.{Receiver}
 use Rattle.pools.specs.declared.tally.Tally.{Tally}
@@ -37,13 +38,14 @@ startedAt c w g = pick (bit w g) (firstAt c g) 0
 abbrev pub paidAt : List ℕ → ℕ → ℕ → ℕ → ℕ
 paidAt c w g p = pick (bit w g) (chargedTo p (listed (chargesBy (firstAt c g % 16) (firstAt c g) (secondAt c g)))) 0
 
-abbrev pub startChecks : Receiver → List ℕ → ℕ → ℕ → List Check
-startChecks r c w g = pick (bit w g) (paymentChecks r (firstAt c g % 16) (firstAt c g) (secondAt c g)) []
+-- the check of what starts in granule g
+abbrev pub startCheck : Receiver → List ℕ → ℕ → ℕ → Check
+startCheck r c w g = check (not (bit w g) || payableBy r (firstAt c g % 16) (firstAt c g) (secondAt c g)) MissingPool g
 
 -- the messages that start in granules g, g + 1, .., k of them: their checks, and what they pay of pool p
 unfoldable pub startsChecks : Receiver → List ℕ → ℕ → ℕ → ℕ → List Check
 startsChecks r c w zero g = []
-startsChecks r c w (suc k) g = startChecks r c w g ++ startsChecks r c w k (g + 1)
+startsChecks r c w (suc k) g = startCheck r c w g ∷ startsChecks r c w k (g + 1)
 
 unfoldable pub startsPay : List ℕ → ℕ → ℕ → ℕ → ℕ → ℕ
 startsPay c w zero g p = 0
@@ -57,10 +59,17 @@ abbrev pub grantAt : List ℕ → ℕ → Grant
 grantAt c g =
     grantOf (getD c (start g + 2) 0) (getD c (start g + 3) 0) (getD c (start g + 4) 0) (getD c (start g + 5) 0) (getD c (start g + 6) 0)
 
+-- the check of a grant at a place, and that of the CrdtGrant that starts in granule g
+abbrev pub grantCheck : Receiver → Grant → ℕ → Check
+grantCheck r n p = check (grantable r n) MissingGrantPool p
+
+abbrev pub crdtCheck : Receiver → List ℕ → ℕ → ℕ → Check
+crdtCheck r c w g = check (not (grantsAt c w g) || grantable r (grantAt c g)) MissingGrantPool g
+
 -- the CrdtGrants that start in granules g, g + 1, .., k of them: their checks, and what they give to pool p
 unfoldable pub crdtChecks : Receiver → List ℕ → ℕ → ℕ → ℕ → List Check
 crdtChecks r c w zero g = []
-crdtChecks r c w (suc k) g = pick (grantsAt c w g) (grantChecks r (grantAt c g)) [] ++ crdtChecks r c w k (g + 1)
+crdtChecks r c w (suc k) g = crdtCheck r c w g ∷ crdtChecks r c w k (g + 1)
 
 unfoldable pub crdtGives : List ℕ → ℕ → ℕ → ℕ → ℕ → ℕ
 crdtGives c w zero g p = 0

@@ -1,11 +1,12 @@
 // The messages that start in an entry: their pools (cause 14), and what they pay.
 ghost use mathlib.Core.Path.{_≡_};
+ghost use mathlib.Core.List.{[], _∷_};
 ghost use Prim.Native.Nat.{_<_};
 ghost use lib.ListN.{length};
 ghost use Rattle.cause.specs.Checks.{firstFault};
 ghost use Rattle.cause.specs.declared.Verdict.the-variants.{Accepted};
 ghost use Rattle.pools.specs.Rows.{Small, raised};
-ghost use Rattle.pools.specs.TalliesMirror.{startChecks, startsChecks, paidAt, startsPay, Tallied};
+ghost use Rattle.pools.specs.TalliesMirror.{startCheck, startsChecks, paidAt, startsPay, Tallied};
 ghost use Rattle.pools.specs.Tallies.{begunTally};
 use crate::receiver::Receiver;
 use crate::table::ROW;
@@ -29,17 +30,16 @@ fn charge_granule(
 ) -> Verdict
     requires { ⌜ (length (now container) ≡ 256) × (g < 12) ⌝ }
     requires { ⌜ (length (now counts) ≡ 14) × Small (now counts) ⌝ }
-    ensures verdict { λ r. ⌜ r ≡ firstFault (startChecks receiver (now (container .entry)) msgstart g) ⌝ }
+    ensures verdict { λ r. ⌜ r ≡ firstFault (startCheck receiver (now (container .entry)) msgstart g ∷ []) ⌝ }
     ensures counts { λ r. ⌜ (r ≡ Accepted → now (counts .exit) ≡ raised (paidAt (now (container .entry)) msgstart g) (now (counts .entry))) ⌝ }
 {
     let byte0 = read_start(container, msgstart, g);
     let byte1 = container[locate_granule(g) + 1];
-    let verdict = receiver.judge_payment(byte0 % 16, byte0, byte1);
-    if let Verdict::Refused(_, _) = verdict {
-        return verdict;
+    if !receiver.is_payable(byte0 % 16, byte0, byte1) {
+        return Verdict::Refused(Cause::MissingPool, g as u64);
     }
     add_charges(counts, byte0, byte1);
-    verdict
+    Verdict::Accepted
 }
 
 // The messages that start in a container of 256 bytes, in granule order.

@@ -1,16 +1,16 @@
-// The grants of an entry: their pools (cause 14), and what they give.
+// The grants of an entry: their pools (cause 21), and what they give.
 ghost use mathlib.Core.Path.{_≡_};
 ghost use mathlib.Core.Bool.{true, _||_};
-ghost use mathlib.Core.List.{[], _++_};
+ghost use mathlib.Core.List.{[], _∷_};
 ghost use Prim.Native.Nat.{_+_, _<_};
 ghost use lib.Dec.{eqb, ltb};
 ghost use lib.ListN.{length};
 ghost use Rattle.lists.specs.Pick.{pick};
 ghost use Rattle.cause.specs.Checks.{firstFault};
 ghost use Rattle.cause.specs.declared.Verdict.the-variants.{Accepted};
-ghost use Rattle.pools.specs.Pools.{grantChecks, grantedBy};
+ghost use Rattle.pools.specs.Pools.{grantedBy};
 ghost use Rattle.pools.specs.Rows.{Small, raised};
-ghost use Rattle.pools.specs.TalliesMirror.{grantsAt, grantAt, crdtChecks, Tallied};
+ghost use Rattle.pools.specs.TalliesMirror.{grantsAt, grantAt, grantCheck, crdtCheck, crdtChecks, Tallied};
 ghost use Rattle.pools.specs.Tallies.{grantsGive, grantedTally};
 use crate::kinds::Credits;
 use crate::receiver::Receiver;
@@ -20,6 +20,7 @@ use crate::tally::add_count;
 use crate::tally::read_start;
 use crate::tally::refuse_tally;
 use cause::Cause;
+use cause::HEADER_PLACE;
 use cause::Verdict;
 use container::CONTAINER;
 use container::GRANULES;
@@ -72,19 +73,18 @@ fn add_grant(grant: Grant, counts: &mut [u32])
     add_count(counts, choose_dat(grant), Credits(grant.dat as u32));
 }
 
-// A grant: judged, and what it gives added.
-fn take_grant(receiver: Receiver, grant: Grant, counts: &mut [u32]) -> Verdict
+// A grant at a place: judged, and what it gives added.
+fn take_grant(receiver: Receiver, grant: Grant, place: u64, counts: &mut [u32]) -> Verdict
     requires { ⌜ grant .rp < 8 ⌝ }
     requires { ⌜ (length (now counts) ≡ 14) × Small (now counts) ⌝ }
-    ensures verdict { λ r. ⌜ r ≡ firstFault (grantChecks receiver grant) ⌝ }
+    ensures verdict { λ r. ⌜ r ≡ firstFault (grantCheck receiver grant place ∷ []) ⌝ }
     ensures counts { λ r. ⌜ (r ≡ Accepted → now (counts .exit) ≡ raised (λ p. grantedBy p grant) (now (counts .entry))) ⌝ }
 {
-    let verdict = receiver.judge_grant(grant);
-    if let Verdict::Refused(_, _) = verdict {
-        return verdict;
+    if !receiver.is_grantable(grant) {
+        return Verdict::Refused(Cause::MissingGrantPool, place);
     }
     add_grant(grant, counts);
-    verdict
+    Verdict::Accepted
 }
 
 // The CrdtGrant that starts in granule g, if there is one.
@@ -97,7 +97,7 @@ fn grant_granule(
 ) -> Verdict
     requires { ⌜ (length (now container) ≡ 256) × (g < 12) ⌝ }
     requires { ⌜ (length (now counts) ≡ 14) × Small (now counts) ⌝ }
-    ensures verdict { λ r. ⌜ r ≡ firstFault (pick (grantsAt (now (container .entry)) msgstart g) (grantChecks receiver (grantAt (now (container .entry)) g)) []) ⌝ }
+    ensures verdict { λ r. ⌜ r ≡ firstFault (crdtCheck receiver (now (container .entry)) msgstart g ∷ []) ⌝ }
     ensures counts { λ r. ⌜ (r ≡ Accepted → now (counts .exit) ≡ raised (λ p. pick (grantsAt (now (container .entry)) msgstart g) (grantedBy p (grantAt (now (container .entry)) g)) 0) (now (counts .entry))) ⌝ }
 {
     let a = locate_granule(g);
@@ -112,16 +112,16 @@ fn grant_granule(
         container[a + 5],
         container[a + 6],
     );
-    take_grant(receiver, grant, counts)
+    take_grant(receiver, grant, g as u64, counts)
 }
 
 // The grants of a container of 256 bytes: the header's, then the CrdtGrants in granule order.
 fn walk_granted(receiver: Receiver, grant: Grant, msgstart: u16, container: &[u8]) -> Tally
     requires { ⌜ (length (now container) ≡ 256) × (grant .rp < 8) ⌝ }
-    ensures { λ r. ⌜ Tallied (grantChecks receiver grant ++ crdtChecks receiver (now (container .entry)) msgstart 12 0) (grantsGive grant (now (container .entry)) msgstart) r ⌝ }
+    ensures { λ r. ⌜ Tallied (grantCheck receiver grant 12 ∷ crdtChecks receiver (now (container .entry)) msgstart 12 0) (grantsGive grant (now (container .entry)) msgstart) r ⌝ }
 {
     let mut counts = [0u32; ROW];
-    let header = take_grant(receiver, grant, &mut counts);
+    let header = take_grant(receiver, grant, HEADER_PLACE, &mut counts);
     if let Verdict::Refused(_, _) = header {
         return Tally {
             verdict: header,
@@ -148,7 +148,7 @@ fn walk_granted(receiver: Receiver, grant: Grant, msgstart: u16, container: &[u8
     }
 }
 
-// What the header's grant and the CrdtGrants that start in a container by a MsgStart give, counted by pool: 1, 4, then 14 in this order.
+// What the header's grant and the CrdtGrants that start in a container by a MsgStart give, counted by pool: 1, 4, then 21 in this order.
 pub fn tally_granted(receiver: Receiver, grant: Grant, msgstart: u16, container: &[u8]) -> Tally
     ensures { λ r. ⌜ r ≡ grantedTally receiver grant (now (container .entry)) msgstart ⌝ }
 {

@@ -1,16 +1,11 @@
-// The receiver of a direction: its pools, and the messages and grants that need them (cause 14).
+// The receiver of a direction: its pools, and whether those of a message and of a grant exist.
 ghost use mathlib.Core.Path.{_≡_};
 ghost use mathlib.Core.Bool.{_&&_, _||_};
-ghost use Prim.Native.Nat.{_+_, _%_, _<_};
-ghost use mathlib.Core.List.{[], _∷_};
+ghost use Prim.Native.Nat.{_%_, _<_};
 ghost use lib.Dec.{eqb, ltb, leb};
-ghost use Rattle.cause.specs.Checks.{firstFault, check};
-ghost use Rattle.cause.specs.declared.Cause.the-variants.{MissingPool};
 ghost use Rattle.message.specs.Charges.{resPlane, sharedCrdt};
-ghost use Rattle.pools.specs.Pools.{hasPool, capacityOk, receiverOk, paymentChecks, grantChecks};
+ghost use Rattle.pools.specs.Pools.{hasPool, capacityOk, receiverOk, payableBy, grantable};
 use crate::table::ROW;
-use cause::Cause;
-use cause::Verdict;
 use container::Grant;
 use message::Class;
 use message::classify_message;
@@ -29,11 +24,6 @@ const RSP_POOL: u32 = 9;
 const DATA_POOL: u32 = 12;
 
 const PUSH_POOL: u32 = 13;
-
-// Their numbers as places.
-const DATA_PLACE: u64 = 12;
-
-const PUSH_PLACE: u64 = 13;
 
 // Its planes, whether it takes push data, and the capacities of its pools.
 pub struct Receiver {
@@ -97,43 +87,34 @@ impl Receiver {
         true
     }
 
-    // The REQ plane that byte 0 of a message names.
-    fn judge_plane(self, byte0: u8) -> Verdict
-        ensures { λ r. ⌜ r ≡ firstFault (check (ltb (resPlane byte0) (self .planes)) MissingPool (1 + resPlane byte0) ∷ []) ⌝ }
+    // Whether the REQ plane that byte 0 of a message names exists.
+    fn has_plane(self, byte0: u8) -> bool
+        ensures { λ r. ⌜ r ≡ ltb (resPlane byte0) (self .planes) ⌝ }
     {
-        let plane = byte0 / 32;
-        if (plane as u32) < self.planes {
-            return Verdict::Accepted;
-        }
-        Verdict::Refused(Cause::MissingPool, 1 + plane as u64)
+        ((byte0 / 32) as u32) < self.planes
     }
 
-    // The DAT pool of DataS or DataL, by byte 0.
-    fn judge_data(self, byte0: u8) -> Verdict
-        ensures { λ r. ⌜ r ≡ firstFault (check (sharedCrdt byte0 || self .push) MissingPool 12 ∷ []) ⌝ }
+    // Whether the DAT pool of a DataS or DataL exists, by byte 0.
+    fn has_data_pool(self, byte0: u8) -> bool
+        ensures { λ r. ⌜ r ≡ (sharedCrdt byte0 || self .push) ⌝ }
     {
         if self.push {
-            return Verdict::Accepted;
+            return true;
         }
-        if byte0 / 16 % 2 == 1 {
-            return Verdict::Accepted;
-        }
-        Verdict::Refused(Cause::MissingPool, DATA_PLACE)
+        byte0 / 16 % 2 == 1
     }
 
-    // The DAT pool of push data, by byte 1.
-    fn judge_push(self, byte1: u8) -> Verdict
-        ensures { λ r. ⌜ r ≡ firstFault (check (self .push && (eqb (byte1 % 2) 1 || hasPool self 13)) MissingPool 13 ∷ []) ⌝ }
+    // Whether the DAT pool of push data exists, by byte 1.
+    fn has_push_pool(self, byte1: u8) -> bool
+        ensures { λ r. ⌜ r ≡ (self .push && (eqb (byte1 % 2) 1 || hasPool self 13)) ⌝ }
     {
         if self.push {
             if 2 <= self.planes {
-                return Verdict::Accepted;
+                return true;
             }
-            if byte1 % 2 == 1 {
-                return Verdict::Accepted;
-            }
+            return byte1 % 2 == 1;
         }
-        Verdict::Refused(Cause::MissingPool, PUSH_PLACE)
+        false
     }
 
     // Whether every pool that a message with this byte 0 may need exists.
@@ -142,69 +123,59 @@ impl Receiver {
     {
         if self.push {
             if 2 <= self.planes {
-                return ((byte0 / 32) as u32) < self.planes;
+                return self.has_plane(byte0);
             }
         }
         false
     }
 
-    // The pools of a message by the class of its type: REQ before DAT.
-    fn judge_class(self, msgtype: u8, byte0: u8, byte1: u8) -> Verdict
-        ensures { λ r. ⌜ r ≡ firstFault (paymentChecks self msgtype byte0 byte1) ⌝ }
+    // Whether the pools of a message exist, by the class of its type.
+    fn has_class_pools(self, msgtype: u8, byte0: u8, byte1: u8) -> bool
+        ensures { λ r. ⌜ r ≡ payableBy self msgtype byte0 byte1 ⌝ }
     {
         let class = classify_message(msgtype);
         match class {
-            Class::Unknown => Verdict::Accepted,
-            Class::Request => self.judge_plane(byte0),
-            Class::Response => Verdict::Accepted,
-            Class::Snoop => Verdict::Accepted,
-            Class::Data => self.judge_data(byte0),
+            Class::Unknown => true,
+            Class::Request => self.has_plane(byte0),
+            Class::Response => true,
+            Class::Snoop => true,
+            Class::Data => self.has_data_pool(byte0),
             Class::RequestData => {
-                let plane = self.judge_plane(byte0);
-                if let Verdict::Refused(_, _) = plane {
-                    return plane;
+                if self.has_plane(byte0) {
+                    return self.has_push_pool(byte1);
                 }
-                self.judge_push(byte1)
+                false
             }
-            Class::Misc => Verdict::Accepted,
+            Class::Misc => true,
         }
     }
 
-    // The pools of a message of this type, by its bytes 0 and 1: REQ before DAT.
-    pub fn judge_payment(self, msgtype: u8, byte0: u8, byte1: u8) -> Verdict
-        ensures { λ r. ⌜ r ≡ firstFault (paymentChecks self msgtype byte0 byte1) ⌝ }
+    // Whether the pools of a message of this type exist, by its bytes 0 and 1.
+    pub fn is_payable(self, msgtype: u8, byte0: u8, byte1: u8) -> bool
+        ensures { λ r. ⌜ r ≡ payableBy self msgtype byte0 byte1 ⌝ }
     {
         if self.has_every_pool(byte0) {
-            return Verdict::Accepted;
+            return true;
         }
-        self.judge_class(msgtype, byte0, byte1)
+        self.has_class_pools(msgtype, byte0, byte1)
     }
 
-    // The pools of a grant: the plane before DAT.
-    pub fn judge_grant(self, grant: Grant) -> Verdict
-        ensures { λ r. ⌜ r ≡ firstFault (grantChecks self grant) ⌝ }
+    // Whether the pools of a grant exist.
+    pub fn is_grantable(self, grant: Grant) -> bool
+        ensures { λ r. ⌜ r ≡ grantable self grant ⌝ }
     {
         if grant.shc {
-            return Verdict::Accepted;
+            return true;
         }
-        let plane = grant.rp;
-        if self.planes <= plane as u32 {
-            return Verdict::Refused(Cause::MissingPool, 1 + plane as u64);
+        if self.planes <= grant.rp as u32 {
+            return false;
         }
         if grant.dat == 0 {
-            return Verdict::Accepted;
+            return true;
         }
-        if plane == 0 {
-            if self.push {
-                return Verdict::Accepted;
-            }
-            return Verdict::Refused(Cause::MissingPool, DATA_PLACE);
+        if 2 <= grant.rp {
+            return false;
         }
-        if plane == 1 {
-            if self.push {
-                return Verdict::Accepted;
-            }
-        }
-        Verdict::Refused(Cause::MissingPool, PUSH_PLACE)
+        self.push
     }
 }

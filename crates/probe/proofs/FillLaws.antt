@@ -144,7 +144,7 @@ module _ (w : Writer) (l : List ℕ) (n : Grant) (size : ℕ) (long : length (w 
 pub filled-small : (a : Answer) (u n : ℕ) → a ≡ fill.Accepted u → Small a n → (u ≤ 4096) × (n ≤ 100)
 filled-small a u n e h = subst (λ (x : Answer). Small x n) e h
 
-pub refused-small : (a : Answer) (k : Cause) (p n x : ℕ) → a ≡ fill.Refused k p → Small a n → x ≡ causeNumber k → (p ≤ 4096) × (x ≤ 19)
+pub refused-small : (a : Answer) (k : Cause) (p n x : ℕ) → a ≡ fill.Refused k p → Small a n → x ≡ causeNumber k → (p ≤ 4096) × (x < 256)
 refused-small a k p n x e h ex = let m = number-most k in (subst (λ (y : Answer). Small y n) e h, omega arith)
 
 -- ---- the outcome of a call

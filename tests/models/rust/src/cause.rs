@@ -19,6 +19,10 @@ pub const OVER_CAPACITY: u32 = 16;
 pub const BROKEN: u32 = 17;
 pub const TOO_LONG: u32 = 18;
 pub const NOT_VALID: u32 = 19;
+pub const MISSING_GRANT_POOL: u32 = 21;
+
+/// The place of the header where the place is a granule.
+pub const HEADER_PLACE: usize = 12;
 
 /// A cause and the place that it names.
 #[derive(Clone, Copy, PartialEq, Eq, Debug)]

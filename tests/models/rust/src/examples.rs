@@ -1,8 +1,8 @@
-//! Document 01's examples, M1 to M10 and those that are run only, records beneath longer messages, and asks of the feeder.
+//! Document 01's examples, M1 to M10 and those that are run only, records beneath longer messages, missing pools, and asks of the feeder.
 
 use crate::cause::{refusal, Refusal};
 use crate::feeder::{ask, feed, Feed, Refused, Waiting};
-use crate::layout::{granule_start, Format, Grant, Header, Part, CONTAINER, GRANULES};
+use crate::layout::{granule_start, Format, Grant, Header, Part, CONTAINER, GRANULES, GROUP};
 use crate::ledger::{Ledger, Receiver, POOLS, SHARED_DAT};
 use crate::list::{read_number, write_list, write_number};
 use crate::log::verdict;
@@ -74,6 +74,12 @@ fn letter(list: Option<Waiting>) -> char {
 fn starts(format: Format, container: &[u8]) -> Vec<usize> {
     let header = Header::read(format, container).unwrap();
     (0..GRANULES).filter(|&g| header.starts[g]).collect()
+}
+
+/// A message at a granule behind responses in its group.
+fn behind_responses(granule: usize, last: &[u8]) -> Vec<(usize, Vec<u8>)> {
+    let responses = (granule / GROUP * GROUP..granule).map(|g| (g, message(Kind::Resp)));
+    responses.chain([(granule, last.to_vec())]).collect()
 }
 
 /// The messages read out of containers from a fresh state.
@@ -387,6 +393,26 @@ fn ledgers_that_are_valid() {
     let mut plane = receiver(SHARED_DAT, 1);
     plane.capacities[2] = 1;
     assert_eq!(Ledger::fresh(0, [plane; 2]), Err(refusal(19, 0)));
+}
+
+#[test]
+fn places_of_missing_pools() {
+    let ledger = ledger(SHARED_DAT, 1);
+    let audit = |messages: &[(usize, Vec<u8>)], grant| ledger.audit(0, &container(Format::X, messages, grant));
+    let (none, missing) = (Grant::default(), Grant { plane: 1, ..Grant::default() });
+    let (mut request, mut crdt_grant) = (message(Kind::ReqS), message(Kind::CrdtGrant));
+    request[0] += 32;
+    crdt_grant[2..7].copy_from_slice(&missing.to_form());
+    for g in 0..GRANULES {
+        let (pays, grants) = (behind_responses(g, &request), behind_responses(g, &crdt_grant));
+        assert_eq!(audit(&pays, none), Err(refusal(14, g)));
+        assert_eq!(audit(&pays, missing), Err(refusal(14, g)));
+        assert_eq!(audit(&grants, none), Err(refusal(21, g)));
+        assert_eq!(audit(&grants, missing), Err(refusal(21, 12)));
+    }
+    assert_eq!(audit(&[], missing), Err(refusal(21, 12)));
+    assert_eq!(audit(&[(0, crdt_grant.clone()), (3, crdt_grant.clone())], none), Err(refusal(21, 0)));
+    assert_eq!(audit(&[(0, crdt_grant), (3, request)], none), Err(refusal(14, 3)));
 }
 
 #[test]

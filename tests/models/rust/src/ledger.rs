@@ -1,9 +1,12 @@
 //! The ledger: receivers, pools and the audit of entries.
 
-use crate::cause::{refusal, require, Refusal, CONTAINER_LENGTH, MISSING_POOL, NOT_VALID, OVER_CAPACITY, OVER_GRANTED};
+use crate::cause::{
+    refusal, require, Refusal, CONTAINER_LENGTH, HEADER_PLACE, MISSING_GRANT_POOL, MISSING_POOL, NOT_VALID,
+    OVER_CAPACITY, OVER_GRANTED,
+};
 use crate::layout::{Format, Grant, Part, CONTAINER};
-use crate::message::{grant, is_data_shared, is_shared, plane, Kind};
-use crate::reader::{self, is_valid_carry};
+use crate::message::{grant, is_data_shared, is_shared, plane, Charge, Kind};
+use crate::reader::{self, is_valid_carry, Reading};
 
 pub const DIRECTIONS: usize = 2;
 pub const POOLS: usize = 14;
@@ -67,6 +70,25 @@ impl Receiver {
             _ => self.has_plane(pool - FIRST_PLANE),
         }
     }
+
+    /// Whether a message finds its pools, its plane even where shared credit pays, and push if it is a push message.
+    pub fn is_payable(&self, message: &[u8]) -> bool {
+        let Some(kind) = Kind::of(message) else { return true };
+        let has_plane = !kind.charges().contains(&Charge::Req) || self.has_plane(plane(message));
+        let has_push = !kind.is_push() || self.has_push();
+        has_plane && has_push && payments(message).into_iter().all(|pool| self.has_pool(pool))
+    }
+
+    /// Whether a grant finds its plane, whatever its counts, and a pool for a DAT count that is not zero.
+    pub fn is_grantable(&self, grant: &Grant) -> bool {
+        let has_plane = grant.shared || self.has_plane(usize::from(grant.plane));
+        has_plane && (grant.dat == 0 || self.has_data_pool(grant))
+    }
+
+    /// Whether there is a pool for a grant's DAT count.
+    pub fn has_data_pool(&self, grant: &Grant) -> bool {
+        grant.shared || self.has_push() && grant.plane <= 1
+    }
 }
 
 /// Both receivers, what is carried, and the counts over the accepted entries.
@@ -112,16 +134,14 @@ impl Ledger {
         (0..DIRECTIONS).all(|d| self.receivers[d].is_valid() && self.is_carry_right(d) && self.are_counts_right(d))
     }
 
-    /// Whether a direction's carry is valid, passes cause 14 and is all that is open.
+    /// Whether a direction's carry is valid, payable and all that is open.
     fn is_carry_right(&self, d: usize) -> bool {
         let carry = &self.carries[d];
-        if !is_valid_carry(carry) {
+        if !is_valid_carry(carry) || !self.receivers[d].is_payable(carry.message()) {
             return false;
         }
-        let carried = if carry.len > 0 { vec![carry.message().to_vec()] } else { Vec::new() };
-        let owed = count_payments(&carried);
-        let passes = carried.iter().all(|message| judge_payment(&self.receivers[d], message).is_ok());
-        passes && (0..POOLS).all(|p| self.finished[d][p] + owed[p] == self.begun[d][p])
+        let owed = count_payments([carry.message()]);
+        (0..POOLS).all(|p| self.finished[d][p] + owed[p] == self.begun[d][p])
     }
 
     /// Whether begun is at most granted, and granted at most capacity and finished, in every pool.
@@ -146,17 +166,17 @@ impl Ledger {
         let own = direction as usize;
         let opposite = 1 - own;
         let reading = reader::judge(self.format, &self.carries[own], container)?;
-        for message in &reading.started {
-            judge_payment(&self.receivers[own], message)?;
+        for start in &reading.started {
+            require(self.receivers[own].is_payable(&start.message), MISSING_POOL, start.granule)?;
         }
-        let grants = grants_of(reading.grant, &reading.started);
-        for grant in &grants {
-            judge_grant(&self.receivers[opposite], grant)?;
+        let grants = grants_of(&reading);
+        for (place, grant) in &grants {
+            require(self.receivers[opposite].is_grantable(grant), MISSING_GRANT_POOL, *place)?;
         }
         let mut next = self.clone();
         next.carries[own] = reading.carry;
-        add(&mut next.begun[own], &count_payments(&reading.started));
-        add(&mut next.finished[own], &count_payments(&reading.finished));
+        add(&mut next.begun[own], &count_payments(reading.started.iter().map(|start| &start.message[..])));
+        add(&mut next.finished[own], &count_payments(reading.finished.iter().map(Vec::as_slice)));
         add(&mut next.granted[opposite], &count_grants(&grants));
         for pool in 0..POOLS {
             require(next.is_begun_granted(own, pool), OVER_GRANTED, pool)?;
@@ -191,27 +211,12 @@ fn request_pool(message: &[u8]) -> usize {
     }
 }
 
-/// Judges a started message by its receiver: cause 14.
-pub fn judge_payment(receiver: &Receiver, message: &[u8]) -> Result<(), Refusal> {
-    let Some(kind) = Kind::of(message) else { return Ok(()) };
-    if matches!(kind, Kind::ReqS | Kind::ReqL) || kind.is_push() {
-        require(receiver.has_plane(plane(message)), MISSING_POOL, FIRST_PLANE + plane(message))?;
-    }
-    if kind.is_push() {
-        require(receiver.has_push(), MISSING_POOL, DEDICATED_1)?;
-    }
-    for pool in payments(message) {
-        require(receiver.has_pool(pool), MISSING_POOL, pool)?;
-    }
-    Ok(())
-}
-
-/// The header's grant and then those of the CrdtGrants, in granule order.
-fn grants_of(header: Grant, started: &[Vec<u8>]) -> Vec<Grant> {
-    let mut grants = vec![header];
-    for message in started {
-        if Kind::of(message) == Some(Kind::CrdtGrant) {
-            grants.push(grant(message));
+/// The header's grant and then those of the CrdtGrants in granule order, each behind its place.
+fn grants_of(reading: &Reading) -> Vec<(usize, Grant)> {
+    let mut grants = vec![(HEADER_PLACE, reading.grant)];
+    for start in &reading.started {
+        if Kind::of(&start.message) == Some(Kind::CrdtGrant) {
+            grants.push((start.granule, grant(&start.message)));
         }
     }
     grants
@@ -235,33 +240,19 @@ pub fn grant_data_pool(grant: &Grant) -> usize {
     }
 }
 
-/// Judges a grant by the receiver of the direction that it pays: cause 14.
-fn judge_grant(receiver: &Receiver, grant: &Grant) -> Result<(), Refusal> {
-    if grant.shared {
-        return Ok(());
-    }
-    require(receiver.has_plane(usize::from(grant.plane)), MISSING_POOL, grant_request_pool(grant))?;
-    require(grant.dat == 0 || may_grant_data(receiver, grant), MISSING_POOL, grant_data_pool(grant))
-}
-
-/// Whether the receiver has a pool for a grant's DAT count.
-pub fn may_grant_data(receiver: &Receiver, grant: &Grant) -> bool {
-    grant.shared || receiver.has_push() && grant.plane <= 1
-}
-
 /// How often each pool is paid by messages.
-fn count_payments(messages: &[Vec<u8>]) -> [u64; POOLS] {
+fn count_payments<'a>(messages: impl IntoIterator<Item = &'a [u8]>) -> [u64; POOLS] {
     let mut counts = [0; POOLS];
-    for pool in messages.iter().flat_map(|message| payments(message)) {
+    for pool in messages.into_iter().flat_map(payments) {
         counts[pool] += 1;
     }
     counts
 }
 
 /// How many credits of each pool are granted.
-fn count_grants(grants: &[Grant]) -> [u64; POOLS] {
+fn count_grants(grants: &[(usize, Grant)]) -> [u64; POOLS] {
     let mut counts = [0; POOLS];
-    for grant in grants {
+    for (_, grant) in grants {
         counts[grant_request_pool(grant)] += u64::from(grant.req);
         counts[RSP] += u64::from(grant.rsp);
         counts[SNP] += u64::from(grant.snp);

@@ -11,11 +11,18 @@ use crate::placement::Placement;
 
 pub const LEAST_ROOM: usize = 352;
 
+/// A message that starts in a granule, by its bytes there.
+#[derive(Clone, PartialEq, Eq, Debug)]
+pub struct Start {
+    pub granule: usize,
+    pub message: Vec<u8>,
+}
+
 /// What an accepted container says.
 #[derive(Clone, PartialEq, Eq, Debug)]
 pub struct Reading {
-    /// The bytes in their first granule of the messages that start, in granule order.
-    pub started: Vec<Vec<u8>>,
+    /// The messages that start, in granule order.
+    pub started: Vec<Start>,
     /// The messages that end, in order of their last granules.
     pub finished: Vec<Vec<u8>>,
     /// What the next container of the direction goes on with.
@@ -95,7 +102,7 @@ struct Walk {
     /// The bytes so far of the message that goes on, none if empty.
     open: Vec<u8>,
     placement: Placement,
-    started: Vec<Vec<u8>>,
+    started: Vec<Start>,
     finished: Vec<Vec<u8>>,
 }
 
@@ -132,7 +139,7 @@ impl Walk {
         self.placement.starts[g] = Some(kind);
         let used = kind.size().min(granule.len());
         let part = granule[..used].to_vec();
-        self.started.push(part.clone());
+        self.started.push(Start { granule: g, message: part.clone() });
         if used == kind.size() {
             self.finished.push(part);
         } else {

@@ -1,18 +1,18 @@
 //! Random logs: two ends that keep the rules for pools, most of the time.
 
-use model::layout::{Format, Grant, CONTAINER};
-use model::ledger::{
-    grant_data_pool, grant_request_pool, judge_payment, may_grant_data, payments, Ledger, Receiver, NUMBERS, POOLS,
-    RSP, SNP,
-};
+use model::layout::{Format, Grant, CONTAINER, GRANULES};
+use model::ledger::{grant_data_pool, grant_request_pool, payments, Ledger, Receiver, NUMBERS, POOLS, RSP, SNP};
 use model::list::write_number;
-use model::message::{Charge, Kind};
+use model::message::{grant, Charge, Kind, KINDS};
 
 use crate::make;
 use crate::random::Random;
 
 /// The least bytes of an entry: a number of one byte and the container.
 const ENTRY: usize = 1 + CONTAINER;
+
+/// The most messages that are drawn to find one to a missing pool.
+const DRAWN: usize = 16;
 
 /// One container of one direction, at some time.
 #[derive(Clone)]
@@ -74,10 +74,16 @@ pub fn log(random: &mut Random) -> Log {
     let count = if random.once_in(20) { random.below(200) } else { random.below(40) };
     let sloppy = random.pick(&[30, 300, 3_000, 1_000_000]);
     let damaged = random.pick(&[3, 20, 100, 1_000_000]);
+    let missing = if random.once_in(10) { 5 } else { 1_000_000 };
     let mut ledger = Ledger::from_numbers(&log.numbers).expect("the configuration is valid");
     for _ in 0..count {
         let direction = random.byte_below(2);
-        let mut container = entry(random, &ledger, usize::from(direction), sloppy);
+        let own = usize::from(direction);
+        let mut container = if random.once_in(missing) {
+            entry_to_missing_pools(random, &ledger, own)
+        } else {
+            entry(random, &ledger, own, sloppy)
+        };
         if random.once_in(damaged) {
             make::damage(random, ledger.format, &mut container);
         }
@@ -172,9 +178,29 @@ fn entry(random: &mut Random, ledger: &Ledger, own: usize, sloppy: usize) -> [u8
     let grant = if random.once_in(4) { Grant::default() } else { limits.grant(random) };
     let kinds = make::palette(random);
     let carry = ledger.carries[own];
-    make::container(random, format, &carry, grant, |random, legal| {
+    make::container(random, format, &carry, grant, |random, _, legal| {
         limits.message(random, &make::chosen_beside(&grant, &kinds, legal))
     })
+}
+
+/// A container that keeps the rules of reading, with a message or a CrdtGrant to a missing pool at a drawn granule, if one is found, and
+/// responses before it.
+fn entry_to_missing_pools(random: &mut Random, ledger: &Ledger, own: usize) -> [u8; CONTAINER] {
+    let (receiver, other) = (&ledger.receivers[own], &ledger.receivers[1 - own]);
+    let place = random.below(GRANULES);
+    let kinds = if random.once_in(2) { &[Kind::CrdtGrant][..] } else { &KINDS };
+    let grant = if random.once_in(2) { make::grant(random) } else { Grant::default() };
+    make::container(random, ledger.format, &ledger.carries[own], grant, |random, g, legal| {
+        let legal = make::chosen_beside(&grant, if g < place { &[Kind::Resp] } else { kinds }, legal);
+        let suits = |message: &Vec<u8>| g != place || !finds_pools(receiver, other, message);
+        (0..DRAWN).find_map(|_| make::message_of(random, &legal).filter(suits))
+    })
+}
+
+/// Whether a message finds its pools and, of a CrdtGrant, its grant those of the other receiver.
+fn finds_pools(receiver: &Receiver, other: &Receiver, message: &[u8]) -> bool {
+    let grants = Kind::of(message) == Some(Kind::CrdtGrant);
+    receiver.is_payable(message) && (!grants || other.is_grantable(&grant(message)))
 }
 
 impl Limits {
@@ -189,7 +215,7 @@ impl Limits {
         grant.req = self.amount(random, grant_request_pool(&grant));
         grant.rsp = self.amount(random, RSP);
         grant.snp = self.amount(random, SNP);
-        if may_grant_data(&self.other, &grant) {
+        if self.other.has_data_pool(&grant) {
             grant.dat = self.amount(random, grant_data_pool(&grant));
         }
         grant
@@ -229,8 +255,7 @@ impl Limits {
                 message[0] = message[0] & 31 | plane << 5;
             }
             let pools = payments(&message);
-            let has_pools = judge_payment(&self.receiver, &message).is_ok();
-            let pays = has_pools && pools.iter().all(|&pool| self.held[pool] > 0);
+            let pays = self.receiver.is_payable(&message) && pools.iter().all(|&pool| self.held[pool] > 0);
             if pays || random.once_in(4 * self.sloppy) {
                 for pool in pools {
                     self.held[pool] = self.held[pool].saturating_sub(1);

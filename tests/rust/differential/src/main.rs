@@ -16,8 +16,8 @@ use std::path::Path;
 use std::process::ExitCode;
 use std::time::Instant;
 
-use model::cause::{Refusal, BROKEN, NOT_VALID};
-use model::layout::{Format, Grant, CONTAINER};
+use model::cause::{Refusal, BROKEN, HEADER_PLACE, MISSING_GRANT_POOL, MISSING_POOL, NOT_VALID};
+use model::layout::{Format, Grant, CONTAINER, GRANULES};
 use model::ledger::{Ledger, DIRECTIONS, POOLS};
 use model::list::{check, write_list, LIST};
 use model::log::{verdict, Verdict};
@@ -41,10 +41,13 @@ const RUNS: usize = 500;
 const ASKS: usize = 20_000;
 const AUDITED: usize = 5;
 const LONGER: usize = 10;
-const CAUSES: [u32; 17] = [1, 2, 3, 4, 5, 6, 7, 8, 9, 10, 11, 12, 13, 14, 15, 16, 19];
+const CAUSES: [u32; 18] = [1, 2, 3, 4, 5, 6, 7, 8, 9, 10, 11, 12, 13, 14, 15, 16, 19, 21];
 
 /// The causes that logs must meet beside those of their entries.
 const LOG_CAUSES: [u32; 2] = [BROKEN, NOT_VALID];
+
+/// The causes that logs must meet at every place, each with its last place.
+const LAST_PLACES: [(u32, usize); 2] = [(MISSING_POOL, GRANULES - 1), (MISSING_GRANT_POOL, HEADER_PLACE)];
 
 /// The report of numbers that are no configuration, or of no direction or pool.
 const REFUSED_REPORT: u64 = (NOT_VALID as u64) << 48;
@@ -117,6 +120,11 @@ fn is_complete(tally: &Tally) -> bool {
     if !unmet.is_empty() {
         println!("causes not met in logs: {unmet:?}");
     }
+    let partly: Vec<(u32, usize)> =
+        LAST_PLACES.into_iter().filter(|&(cause, last)| tally.count_places(cause, last).contains(&0)).collect();
+    if !partly.is_empty() {
+        println!("causes not met at every place up to their last: {partly:?}");
+    }
     let rare: Vec<usize> = SMALL.into_iter().filter(|&g| tally.beneath[g] < BENEATH).collect();
     if !rare.is_empty() {
         println!("fewer than {BENEATH} records beneath longer messages in granules {rare:?}");
@@ -125,7 +133,7 @@ fn is_complete(tally: &Tally) -> bool {
         println!("fewer than {PAIRS} pairs of interleavings");
     }
     let fed = feeds::is_complete(tally);
-    missed.is_empty() && unmet.is_empty() && rare.is_empty() && tally.pairs >= PAIRS && fed
+    missed.is_empty() && unmet.is_empty() && partly.is_empty() && rare.is_empty() && tally.pairs >= PAIRS && fed
 }
 
 /// Runs the vector files against the model.
@@ -155,6 +163,9 @@ fn run_vectors(data: &str) -> Outcome {
 /// Prints the counts of the run.
 fn report(tally: &Tally, seed: u64, started: Instant) {
     tally.print_table();
+    for (cause, last) in LAST_PLACES {
+        println!("places of {cause}: 0 to {last} met {:?} times", tally.count_places(cause, last));
+    }
     let [containers, lists, logs, asks] = tally.compared;
     println!(
         "packing: {} records beneath in G5, {} in G11, {} lists packed whole, {} in another order",

@@ -63,6 +63,15 @@ pub fn message(random: &mut Random, kind: Kind) -> Vec<u8> {
     bytes
 }
 
+/// A message of one of some kinds; none if there are none.
+pub fn message_of(random: &mut Random, kinds: &[Kind]) -> Option<Vec<u8>> {
+    if kinds.is_empty() {
+        return None;
+    }
+    let kind = random.pick(kinds);
+    Some(message(random, kind))
+}
+
 /// Gives a CrdtGrant its grant.
 pub fn set_grant(message: &mut [u8], grant: Grant) {
     message[2..7].copy_from_slice(&grant.to_form());
@@ -115,13 +124,13 @@ pub fn list_bound(random: &mut Random) -> usize {
     }
 }
 
-/// A container that keeps the rules, with messages that `choose` gives out of the kinds that are legal at a granule.
+/// A container that keeps the rules, with messages that `choose` gives by granule out of the kinds that are legal there.
 pub fn container(
     random: &mut Random,
     format: Format,
     carry: &Part,
     grant: Grant,
-    mut choose: impl FnMut(&mut Random, &[Kind]) -> Option<Vec<u8>>,
+    mut choose: impl FnMut(&mut Random, usize, &[Kind]) -> Option<Vec<u8>>,
 ) -> [u8; CONTAINER] {
     let mut bytes = [0; CONTAINER];
     let mut placement = Placement::default();
@@ -134,7 +143,7 @@ pub fn container(
         if !goes_on {
             let legal = legal_kinds(format, &placement, g);
             let beneath = !rest.is_empty();
-            let Some(message) = choose(random, &legal) else { continue };
+            let Some(message) = choose(random, g, &legal) else { continue };
             placement.starts[g] = Kind::of(&message);
             if beneath {
                 put(&mut bytes, g, &message);
@@ -182,16 +191,11 @@ pub fn fresh_container(random: &mut Random, format: Format) -> [u8; CONTAINER] {
     let kinds = palette(random);
     let density = 1 + random.below(8);
     let grant = if random.once_in(2) { grant(random) } else { Grant::default() };
-    container(random, format, &Part::none(), grant, |random, legal| {
+    container(random, format, &Part::none(), grant, |random, _, legal| {
         if random.once_in(density) && density < 8 {
             return None;
         }
-        let legal = chosen_beside(&grant, &kinds, legal);
-        if legal.is_empty() {
-            return None;
-        }
-        let kind = random.pick(&legal);
-        Some(message(random, kind))
+        message_of(random, &chosen_beside(&grant, &kinds, legal))
     })
 }
 

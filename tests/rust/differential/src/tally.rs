@@ -1,6 +1,6 @@
 //! Counts of what was compared, met and found different.
 
-use std::collections::{BTreeMap, BTreeSet};
+use std::collections::BTreeMap;
 
 use model::cause::Refusal;
 use model::layout::GRANULES;
@@ -9,11 +9,11 @@ const INPUTS: usize = 4;
 const SHOWN: usize = 10;
 const MOST_PLACES: usize = 14;
 
-/// How often a cause was met, and where.
+/// How often a cause was met, by inputs and by places.
 #[derive(Default)]
 struct Met {
     times: [usize; INPUTS],
-    places: BTreeSet<u64>,
+    places: BTreeMap<u64, usize>,
 }
 
 /// What a refusal was met in.
@@ -55,7 +55,7 @@ impl Tally {
             Some(refusal) => {
                 let met = self.causes.entry(refusal.cause).or_default();
                 met.times[place as usize] += 1;
-                met.places.insert(refusal.place);
+                *met.places.entry(refusal.place).or_default() += 1;
             }
         }
     }
@@ -78,6 +78,12 @@ impl Tally {
         self.causes.get(&cause).is_some_and(|met| met.times[place as usize] > 0)
     }
 
+    /// How often a cause was met at each place up to the last.
+    pub fn count_places(&self, cause: u32, last: usize) -> Vec<usize> {
+        let count = |place| self.causes.get(&cause).and_then(|met| met.places.get(&place)).copied();
+        (0..=last as u64).map(|place| count(place).unwrap_or(0)).collect()
+    }
+
     /// Prints the table of causes met.
     pub fn print_table(&self) {
         println!("{:>5} {:>10} {:>8} {:>8} {:>8}  places", "cause", "containers", "lists", "logs", "asks");
@@ -91,11 +97,11 @@ impl Tally {
 }
 
 /// A few places by themselves, many by their number.
-fn places(places: &BTreeSet<u64>) -> String {
+fn places(places: &BTreeMap<u64, usize>) -> String {
     if places.len() > MOST_PLACES {
         return format!("{} different", places.len());
     }
-    let shown: Vec<String> = places.iter().map(u64::to_string).collect();
+    let shown: Vec<String> = places.keys().map(u64::to_string).collect();
     shown.join(" ")
 }
 

@@ -16,21 +16,14 @@ add-byte1 c = search needs
 shared-slice-read-byte1 : tie.Need-shared-slice-read-byte1
 shared-slice-read-byte1 c = search needs
 
-judge-payment-requires : tie.Need-judge-payment-requires
-judge-payment-requires c κs = search needs
-
-enum-told : tie.Need-enum-told
-enum-told c = search needs
+is-payable-requires : tie.Need-is-payable-requires
+is-payable-requires c κs = search needs
 
 returns : tie.Need-returns
 returns c =
-    let judged = c .before .before in
-    let located = judged .before .before in
+    let located = c .before .before .before in
     let s = located .before .before .before .before in
-    charge-refused (s .args .receiver) (s .args .container .now) (s .args .msgstart) (s .args .g) (s .args .counts .now) (located .before .read-start .ensures) (located .locate-granule .ensures) (judged .judge-payment .ensures) (c .enum-told .given .1)
-
-enum-told-2 : tie.Need-enum-told-2
-enum-told-2 c = search needs
+    charge-refused (s .args .receiver) (s .args .container .now) (s .args .msgstart) (s .args .g) (s .args .counts .now) (located .before .read-start .ensures) (located .locate-granule .ensures) (c .before .is-payable .ensures) (c .if1 .taken)
 
 add-charges-requires : tie.Need-add-charges-requires
 add-charges-requires c κs = search needs
@@ -40,10 +33,10 @@ same-length c = search needs
 
 returns-2 : tie.Need-returns-2
 returns-2 c =
-    let judged = c .before .before .before .before .before .before in
-    let located = judged .before .before in
+    let judged = c .before .before .before .before in
+    let located = judged .before .before .before in
     let s = located .before .before .before .before in
-    charge-added (s .args .receiver) (s .args .container .now) (s .args .msgstart) (s .args .g) (s .args .counts .now) (located .before .read-start .ensures) (located .locate-granule .ensures) (judged .judge-payment .ensures) (c .before .before .add-charges .ensures)
+    charge-added (s .args .receiver) (s .args .container .now) (s .args .msgstart) (s .args .g) (s .args .counts .now) (located .before .read-start .ensures) (located .locate-granule .ensures) (judged .before .is-payable .ensures) (judged .if1 .left) (c .before .before .add-charges .ensures)
 
 pub charge-granule-spec : {M : Type 1} → statement M
 charge-granule-spec =
@@ -53,10 +46,8 @@ charge-granule-spec =
     locate-granule-requires
     add-byte1
     shared-slice-read-byte1
-    judge-payment-requires
-    enum-told
+    is-payable-requires
     returns
-    enum-told-2
     add-charges-requires
     same-length
     returns-2)

@@ -1,10 +1,11 @@
 -- `pools::granted::walk_granted` meets its contract.
 use Prim.Native.Nat.{_-_}
 use mathlib.Core.Path.{refl}
+use mathlib.Core.List.{[], _∷_}
 use native.Mathlib.Omega.{arith}
 use borrow.Author.Needs.{needs}
-use Rattle.pools.specs.Pools.{grantChecks}
-use Rattle.pools.specs.TalliesMirror.{crdtChecks}
+use Rattle.cause.specs.Causes.{headerPlace}
+use Rattle.pools.specs.TalliesMirror.{grantCheck, crdtChecks}
 use Rattle.pools.proofs.TallyLaws.{zero-counts}
 use Rattle.pools.proofs.PassLaws.{tallied-before, walk-fits, walk-stops, walk-on, walk-ends}
 use Rattle.pools.proofs.GrantedLaws.{granted-walks, gain-most, Granting, granted-starts, all-granted}
@@ -29,7 +30,7 @@ enum-told c = search needs
 returns : tie.Need-returns Inv-loop μ-loop
 returns c =
     let s = c .before .before .before .before .before .before in
-    tallied-before (grantChecks (s .args .receiver) (s .args .grant)) (crdtChecks (s .args .receiver) (s .args .container .now) (s .args .msgstart) 12 0) (c .before .before .before .take-grant .ensures .0) (c .enum-told .given .1) _ _
+    tallied-before (grantCheck (s .args .receiver) (s .args .grant) headerPlace ∷ []) (crdtChecks (s .args .receiver) (s .args .container .now) (s .args .msgstart) 12 0) (c .before .before .before .take-grant .ensures .0) (c .enum-told .given .1) _ _
 
 enum-told-2 : tie.Need-enum-told-2 Inv-loop μ-loop
 enum-told-2 c = search needs

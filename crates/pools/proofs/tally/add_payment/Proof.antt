@@ -5,7 +5,7 @@ use native.Mathlib.Omega.{arith}
 use Rattle.message.specs.Heads.{classOf}
 use Rattle.message.specs.Charges.{chargesBy}
 use Rattle.message.specs.declared.charge.Charges.{Charges}
-use Rattle.pools.proofs.TallyLaws.{Payable, payable, pay-none, pay-fits, pay-one, pay-first, pay-second, pay-two}
+use Rattle.pools.proofs.TallyLaws.{AllChargeable, all-chargeable, pay-none, pay-fits, pay-one, pay-first, pay-second, pay-two}
 use borrow.Author.Needs.{needs}
 use Rattle.pools.proofs.tally.add_payment.Statement.{statement}
 use Rattle.pools.proofs.tally.add_payment.Tie as tie
@@ -14,8 +14,8 @@ use Rattle.pools.proofs.tally.add_payment.Tie as tie
 abbrev charged : tie.Start → Charges
 charged s = chargesBy (s .args .byte0 % 16) (s .args .byte0) (s .args .byte1)
 
-able : (s : tie.Start) → Payable (charged s)
-able s = payable (s .args .byte0) (s .args .byte1) (omega arith) (classOf (s .args .byte0 % 16))
+able : (s : tie.Start) → AllChargeable (charged s)
+able s = all-chargeable (s .args .byte0) (s .args .byte1) (omega arith) (classOf (s .args .byte0 % 16))
 
 charge-message-requires : tie.Need-charge-message-requires
 charge-message-requires c κs = search needs

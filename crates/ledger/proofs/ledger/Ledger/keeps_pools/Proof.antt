@@ -10,19 +10,13 @@ byte-at-requires c κs = search needs
 byte-at-requires-2 : tie.Need-byte-at-requires-2
 byte-at-requires-2 c κs = search needs
 
-judge-payment-requires : tie.Need-judge-payment-requires
-judge-payment-requires c κs = search needs
-
-enum-told : tie.Need-enum-told
-enum-told c = search needs
+is-payable-requires : tie.Need-is-payable-requires
+is-payable-requires c κs = search needs
 
 returns : tie.Need-returns
 returns c =
-    let start = c .before .before .before .before .before .before in
-    carry-refused (start .args .self) (start .args .direction) (start .pre .0 .1) (start .pre .1) (c .before .before .before .before .byte-at .ensures) (c .before .before .before .byte-at2 .ensures) (c .before .before .judge-payment .ensures) (c .enum-told .given .1)
-
-enum-told-2 : tie.Need-enum-told-2
-enum-told-2 c = search needs
+    let start = c .before .before .before .before .before in
+    carry-refused (start .args .self) (start .args .direction) (start .pre .0 .1) (start .pre .1) (c .before .before .before .byte-at .ensures) (c .before .before .byte-at2 .ensures) (c .before .is-payable .ensures) (c .if1 .taken)
 
 nest-requires : tie.Need-nest-requires
 nest-requires c κs = search needs
@@ -38,11 +32,11 @@ keeps-counts-requires c κs = search needs
 
 returns-2 : tie.Need-returns-2
 returns-2 c =
-    let start = c .before .before .before .before .before .before .before .before .before .before .before .before .before in
+    let judged = c .before .before .before .before .before .before .before .before in
+    let start = judged .before .before .before .before in
     let s = start .args .self in
     let d = start .args .direction in
-    let judged = c .before .before .before .before .before .before .before .before .before in
-    pools-decide s d (start .pre .0 .1) (start .pre .1) (judged .before .before .byte-at .ensures) (judged .before .byte-at2 .ensures) (judged .judge-payment .ensures) (c .before .before .before .before .before .before .before .enum-told2 .given .1)
+    pools-decide s d (start .pre .0 .1) (start .pre .1) (judged .before .before .byte-at .ensures) (judged .before .byte-at2 .ensures) (judged .is-payable .ensures) (c .before .before .before .before .before .before .before .if1 .left)
     (counts-pools s d (start .pre .0 .0) (c .before .before .before .nest .ensures) (c .before .before .nest2 .ensures) (start .pre .1) (c .before .count-carry .ensures) (start .pre .0 .1) (c .keeps-counts .ensures))
 
 pub keeps-pools-spec : {M : Type 1} → statement M
@@ -51,10 +45,8 @@ keeps-pools-spec =
     (tie.spec
     byte-at-requires
     byte-at-requires-2
-    judge-payment-requires
-    enum-told
+    is-payable-requires
     returns
-    enum-told-2
     nest-requires
     nest-requires-2
     count-carry-requires
