@@ -4,14 +4,15 @@ use mathlib.Core.Path.{_≡_, refl, sym, ap, _∙_}
 use mathlib.Core.Bool.{true, false}
 use mathlib.Core.List.{List, _++_}
 use native.Mathlib.Omega.{arith}
-use native.Mathlib.Nat.{zero-add}
 use lib.ListN.{length, getD, List·getD-append}
 use lib.Seq.{getD-append-add}
-use lib.Dec.{eqb, ltb}
+use lib.Dec.{eqb, ltb, leb}
 use borrow.Author.Tests.{eqb-true, ltb-true, leb-true, eq-eqb, ne-eqb, lt-ltb, le-leb}
 use Rattle.lists.proofs.Tests.{and-left, and-right, and-both}
 use Rattle.cause.specs.Checks.{Pass, firstFault}
+use Rattle.cause.specs.declared.Cause.the-variants.{BegunOverGranted, GrantedOverCapacity}
 use Rattle.cause.specs.declared.Verdict.the-variants.{Accepted}
+use Rattle.cause.proofs.EachLaws.{Each, each-passes, passes-each}
 use Rattle.cause.proofs.CheckLaws.{accepted-pass, pass-accepted, pass-front, pass-back, pass-append}
 use Rattle.container.specs.Layout.{formatOf}
 use Rattle.container.specs.Grants.{headerGrant}
@@ -40,45 +41,19 @@ table-at f (suc zero) p h k =
 table-at f (suc (suc e)) p h k = absurd (omega arith)
 
 -- 15 and 16, pool by pool
-later : (p i : ℕ) → p + suc i ≡ (p + 1) + i
-later p i = omega arith
+abbrev needed : Ledger → ℕ → List Grant → ℕ → ℕ
+needed s d ns p = heldOf s d p + (grantedTo p ns + openOf s d p)
 
-held-at : (s : Ledger) (d : ℕ) (ms : List (List ℕ)) (k p i : ℕ) → Pass (creditChecks s d ms k p) → i < k → paidTo (p + i) ms ≤ heldOf s d (p + i)
+pub credit-each : (s : Ledger) (d : ℕ) (ms : List (List ℕ)) → Each (creditChecks s d ms) (λ p. leb (paidTo p ms) (heldOf s d p)) BegunOverGranted
 unfolding creditChecks
-held-at s d ms zero p i h b = absurd (omega arith)
-held-at s d ms (suc k) p zero h b =
-    let e : p + 0 ≡ p = omega arith in
-    rw e (leb-true (paidTo p ms) (heldOf s d p) (h .0))
-held-at s d ms (suc k) p (suc i) h b =
-    rw (later p i) (held-at s d ms k (p + 1) i (h .1) (omega arith))
+credit-each s d ms = record { none = λ p. refl; more = λ k p. refl }
+
+pub capacity-each : (s : Ledger) (d : ℕ) (ns : List Grant) → Each (capacityChecks s d ns) (λ p. leb (needed s d ns p) (getD (receiverOf s d .capacities) p 0)) GrantedOverCapacity
+unfolding capacityChecks
+capacity-each s d ns = record { none = λ p. refl; more = λ k p. refl }
 
 abbrev Fits : Ledger → ℕ → List Grant → ℕ → Type 0
-Fits s d ns p = heldOf s d p + (grantedTo p ns + openOf s d p) ≤ getD (receiverOf s d .capacities) p 0
-
-granted-at : (s : Ledger) (d : ℕ) (ns : List Grant) (k p i : ℕ) → Pass (capacityChecks s d ns k p) → i < k → Fits s d ns (p + i)
-unfolding capacityChecks
-granted-at s d ns zero p i h b = absurd (omega arith)
-granted-at s d ns (suc k) p zero h b =
-    let e : p + 0 ≡ p = omega arith in
-    rw e (leb-true (heldOf s d p + (grantedTo p ns + openOf s d p)) (getD (receiverOf s d .capacities) p 0) (h .0))
-granted-at s d ns (suc k) p (suc i) h b =
-    rw (later p i) (granted-at s d ns k (p + 1) i (h .1) (omega arith))
-
-held-by : (s : Ledger) (d : ℕ) (ms : List (List ℕ)) (k p : ℕ) → ((i : ℕ) → i < k → paidTo (p + i) ms ≤ heldOf s d (p + i)) → Pass (creditChecks s d ms k p)
-unfolding creditChecks
-held-by s d ms zero p h = tt
-held-by s d ms (suc k) p h =
-    let e : p + 0 ≡ p = omega arith in
-    (le-leb (paidTo p ms) (heldOf s d p) (rw e at (h 0 (omega arith))), held-by s d ms k (p + 1) (λ i b. rw (later p i) at (h (suc i) (omega arith))))
-
-granted-by : (s : Ledger) (d : ℕ) (ns : List Grant) (k p : ℕ) → ((i : ℕ) → i < k → Fits s d ns (p + i)) → Pass (capacityChecks s d ns k p)
-unfolding capacityChecks
-granted-by s d ns zero p h = tt
-granted-by s d ns (suc k) p h =
-    let e : p + 0 ≡ p = omega arith in (
-      le-leb (heldOf s d p + (grantedTo p ns + openOf s d p)) (getD (receiverOf s d .capacities) p 0) (rw e at (h 0 (omega arith))),
-      granted-by s d ns k (p + 1) (λ i b. rw (later p i) at (h (suc i) (omega arith))),
-    )
+Fits s d ns p = needed s d ns p ≤ getD (receiverOf s d .capacities) p 0
 
 -- an entry that has passed every check
 pub record AcceptedEntry (s : Ledger) (d : ℕ) (c : List ℕ) : Type 0 where
@@ -111,8 +86,8 @@ module _ (s : Ledger) (d : ℕ) (c : List ℕ) where
         reads = pass-front state (messages ++ (grants ++ (held ++ room))) (h .1 .1);
         messages = pass-front messages (grants ++ (held ++ room)) a;
         grants = pass-front grants (held ++ room) b;
-        covered = λ p i. rw (zero-add p) at (held-at s d (begun s d c) 14 0 p (pass-front held room q) i);
-        fits = λ p i. rw (zero-add p) at (granted-at s (opposite d) (granted s d c) 14 0 p (pass-back held room q) i);
+        covered = λ p i. leb-true (paidTo p (begun s d c)) (heldOf s d p) (each-passes (credit-each s d (begun s d c)) 14 0 (pass-front held room q) p (omega arith) (omega arith));
+        fits = λ p i. leb-true (needed s (opposite d) (granted s d c) p) (getD (receiverOf s (opposite d) .capacities) p 0) (each-passes (capacity-each s (opposite d) (granted s d c)) 14 0 (pass-back held room q) p (omega arith) (omega arith));
       }
 
   pub entry-checks-accepted : AcceptedEntry s d c → firstFault (auditChecks s d c) ≡ Accepted
@@ -123,7 +98,9 @@ module _ (s : Ledger) (d : ℕ) (c : List ℕ) where
       let grants = grantChecks (receiverOf s (opposite d)) (headerGrant (formatOf (s .format)) c) (cellsIn (readerOf s d) c) in
       let held = creditChecks s d (begun s d c) 14 0 in
       let room = capacityChecks s (opposite d) (granted s d c) 14 0 in
-      let pools : Pass (held ++ room) = pass-append held room (held-by s d (begun s d c) 14 0 (λ i b. rw (zero-add i) (a .covered i b))) (granted-by s (opposite d) (granted s d c) 14 0 (λ i b. rw (zero-add i) (a .fits i b))) in
+      let covers : Pass held = passes-each (credit-each s d (begun s d c)) 14 0 (λ p l b. le-leb (paidTo p (begun s d c)) (heldOf s d p) (a .covered p (omega arith))) in
+      let fits : Pass room = passes-each (capacity-each s (opposite d) (granted s d c)) 14 0 (λ p l b. le-leb (needed s (opposite d) (granted s d c) p) (getD (receiverOf s (opposite d) .capacities) p 0) (a .fits p (omega arith))) in
+      let pools : Pass (held ++ room) = pass-append held room covers fits in
       pass-accepted (auditChecks s d c) (
         and-both (ltb d 2) (ledgerOk s) (lt-ltb d 2 (a .direction)) (a .ledger),
         (

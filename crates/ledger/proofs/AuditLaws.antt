@@ -1,11 +1,10 @@
 -- The audit of an entry by the verdicts of its parts: what refuses it, and what it settles. Assumes nothing.
 use Prim.Native.Nat.{ℕ, zero, suc, _+_, _-_, _/_, _%_, _^_, _≤_, _<_}
-use mathlib.Core.Path.{_≡_, sym, ap, ap₂, subst, _∙_}
+use mathlib.Core.Path.{_≡_, sym, ap, ap₂, _∙_}
 use mathlib.Core.Bool.{Bool, true, false, _&&_, not}
 use mathlib.Core.List.{List, [], _∷_, _++_}
 use mathlib.Core.Logic.{⊎-elim}
 use native.Mathlib.Omega.{arith}
-use native.Mathlib.Nat.{zero-add}
 use lib.ListN.{length, getD, take, drop, length-take, List·getD-eq-default}
 use lib.Dec.{ltb}
 use borrow.Author.Tests.{eq-eqb, ne-eqb, lt-ltb, ltb-true, leb-true, not-true, not-false}
@@ -38,7 +37,7 @@ use Rattle.ledger.specs.declared.ledger.Ledger.{Ledger}
 use Rattle.ledger.specs.declared.ledger.Step.{Step}
 use Rattle.pools.specs.declared.tally.Tally.{Tally}
 use Rattle.pools.proofs.RowLaws.{row-equal}
-use Rattle.pools.proofs.PoolLoops.{Checks}
+use Rattle.cause.proofs.EachLaws.{Each, each-passes}
 use Rattle.ledger.proofs.CountLaws.{short-checks, over-checks}
 use Rattle.pools.proofs.PassLaws.{stops-before, goes-behind, begun-is, granted-is}
 use Rattle.pools.proofs.EntryLaws.{starts-checks, starts-pay, crdt-checks, crdt-gives}
@@ -48,13 +47,8 @@ use Rattle.ledger.proofs.SettleLaws.{skip, paidRow, givenRow, settles}
 -- ---- the pools
 
 -- checks of pools that pass, pool by pool
-checks-at : {checks : ℕ → ℕ → List Check} {test : ℕ → Bool} {a : Cause} → Checks checks test a → (k p i : ℕ) → Pass (checks k p) → i < k → test (p + i) ≡ true
-checks-at s zero p i h b = absurd (omega arith)
-checks-at {test = test} s (suc k) p zero h b = ap test (omega arith) ∙ subst Pass (s .more k p) h .0
-checks-at {test = test} s (suc k) p (suc i) h b = ap test (omega arith) ∙ checks-at s k (p + 1) i (subst Pass (s .more k p) h .1) (omega arith)
-
-pool-at : {checks : ℕ → ℕ → List Check} {test : ℕ → Bool} {a : Cause} → Checks checks test a → firstFault (checks 14 0) ≡ Accepted → (p : ℕ) → p < 14 → test p ≡ true
-pool-at {checks} {test} s e p b = ap test (sym (zero-add p)) ∙ checks-at s 14 0 p (accepted-pass (checks 14 0) e) b
+pool-at : {checks : ℕ → ℕ → List Check} {test : ℕ → Bool} {a : Cause} → Each checks test a → firstFault (checks 14 0) ≡ Accepted → (p : ℕ) → p < 14 → test p ≡ true
+pool-at {checks} s e p b = each-passes s 14 0 (accepted-pass (checks 14 0) e) p (omega arith) (omega arith)
 
 -- no entry behind the last pool
 past : (l : List ℕ) (p : ℕ) → length l ≤ 14 → 14 ≤ p → getD l p 0 ≡ 0

@@ -7,13 +7,13 @@ use native.Mathlib.Nat.{zero-add}
 use native.Mathlib.Omega.{arith}
 use lib.ListN.{length, getD, set}
 use lib.Dec.{eqb, leb}
-use borrow.Author.Tests.{eq-eqb, ne-eqb}
 use Rattle.lists.proofs.Fill.{grown, grown-more, grown-all}
 use Rattle.cause.specs.declared.Cause.the-variants.{BegunOverGranted, GrantedOverCapacity}
+use Rattle.cause.proofs.EachLaws.{Each}
 use Rattle.pools.specs.Rows.{row, entryOf, rows}
 use Rattle.ledger.specs.CountingMirror.{creditRowChecks, capacityRowChecks, rowsOk, settledHeld, settledOpen}
 use Rattle.pools.specs.declared.kinds.Credits.{Credits}
-use Rattle.pools.proofs.PoolLoops.{Tests, Checks}
+use Rattle.pools.proofs.PoolLoops.{Tests}
 use Rattle.pools.proofs.RowLaws.{length-row, row-at, row-same}
 use Rattle.pools.proofs.TableLaws.{Rows}
 
@@ -26,13 +26,13 @@ so true e = refl
 so false e = sym e
 
 -- begun against held, pool by pool
-pub short-checks : (held begun : List ℕ) → Checks (creditRowChecks held begun) (λ p. leb (getD begun p 0) (getD held p 0)) BegunOverGranted
+pub short-checks : (held begun : List ℕ) → Each (creditRowChecks held begun) (λ p. leb (getD begun p 0) (getD held p 0)) BegunOverGranted
 unfolding creditRowChecks
 short-checks held begun = record { none = λ p. refl; more = λ k p. refl }
 
 -- held, granted and open against the capacity, pool by pool
 pub over-checks : (held opened granted capacities : List ℕ)
-    → Checks (capacityRowChecks held opened granted capacities) (λ p. leb (getD held p 0 + (getD granted p 0 + getD opened p 0)) (getD capacities p 0)) GrantedOverCapacity
+    → Each (capacityRowChecks held opened granted capacities) (λ p. leb (getD held p 0 + (getD granted p 0 + getD opened p 0)) (getD capacities p 0)) GrantedOverCapacity
 unfolding capacityRowChecks
 over-checks held opened granted capacities = record { none = λ p. refl; more = λ k p. refl }
 

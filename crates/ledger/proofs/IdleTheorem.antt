@@ -1,5 +1,5 @@
 -- An idle entry is accepted, and leaves the ledger as it is. Assumes nothing.
-use Prim.Native.Nat.{ℕ, zero, suc, _+_, _^_, _≤_, _<_}
+use Prim.Native.Nat.{ℕ, zero, suc, _+_, _^_, _<_}
 use mathlib.Core.Path.{_≡_, refl, sym, ap, _∙_}
 use mathlib.Core.Bool.{Bool, true, false, _&&_}
 use mathlib.Core.List.{List, [], _∷_, _++_}
@@ -19,6 +19,7 @@ use Rattle.cause.specs.declared.Cause.{Cause}
 use Rattle.cause.specs.declared.Cause.the-variants.{MissingPool, MissingGrantPool}
 use Rattle.cause.specs.declared.Verdict.the-variants.{Accepted}
 use Rattle.cause.proofs.CheckLaws.{pass-accepted, accepted-pass, pass-append}
+use Rattle.cause.proofs.EachLaws.{passes-each}
 use Rattle.container.specs.Layout.{Format, formatOf, msgStart, bit}
 use Rattle.container.specs.Idle.{idleFrom, idle}
 use Rattle.container.specs.Grants.{grantOf, headerGrant}
@@ -39,6 +40,7 @@ use Rattle.ledger.specs.Audit.{receiverOf, readerOf, heldOf, openOf, led
 use Rattle.ledger.specs.CountingMirror.{idleEntry}
 use Rattle.ledger.specs.declared.ledger.Ledger.{Ledger}
 use Rattle.ledger.proofs.TableSelf.{table-by}
+use Rattle.ledger.proofs.AcceptedLaws.{credit-each, capacity-each}
 use Rattle.ledger.proofs.ValidLaws.{ValidDirection, ledger-valid}
 
 -- the container of zeros, and its grant
@@ -148,19 +150,15 @@ module _ (s : Ledger) (d : ℕ) (c : List ℕ) (b : d < 2) (ok : ledgerOk s ≡ 
   granted-none = rw begun-none (ap (λ (g : Grant). g ∷ []) (sym (read .1)))
 
   -- 15 and 16
-  held-pass : (k p : ℕ) → Pass (creditChecks s d [] k p)
-  unfolding creditChecks paidTo
-  held-pass zero p = tt
-  held-pass (suc k) p = (le-leb 0 (heldOf s d p) (omega arith), held-pass k (p + 1))
+  held-pass : Pass (creditChecks s d [] 14 0)
+  unfolding paidTo
+  held-pass = passes-each (credit-each s d []) 14 0 (λ p l h. le-leb 0 (heldOf s d p) (omega arith))
 
   module _ (v : ValidDirection s (opposite d)) where
-    granted-pass : (k p : ℕ) → p + k ≤ 14 → Pass (capacityChecks s (opposite d) (noGrant ∷ []) k p)
-    unfolding capacityChecks
-    granted-pass zero p h = tt
-    granted-pass (suc k) p h = (
-      rw (gives-none p) (le-leb (heldOf s (opposite d) p + (0 + openOf s (opposite d) p)) (getD (receiverOf s (opposite d) .capacities) p 0) (omega (arith, v .room p (omega arith)))),
-      granted-pass k (p + 1) (omega arith),
-    )
+    room-pass : Pass (capacityChecks s (opposite d) (noGrant ∷ []) 14 0)
+    room-pass =
+        passes-each (capacity-each s (opposite d) (noGrant ∷ [])) 14 0
+        (λ p l h. rw (gives-none p) (le-leb (heldOf s (opposite d) p + (0 + openOf s (opposite d) p)) (getD (receiverOf s (opposite d) .capacities) p 0) (omega (arith, v .room p (omega arith)))))
 
     grant-pass : grantable (receiverOf s (opposite d)) (headerGrant fm c) ≡ true
     grant-pass =
@@ -187,7 +185,7 @@ module _ (s : Ledger) (d : ℕ) (c : List ℕ) (b : d < 2) (ok : ledgerOk s ≡ 
           rw (begun-none, granted-none)
               (pass-append (stateChecks r c) (messages ++ (grants ++ (held ++ room))) read-pass
               (pass-append messages (grants ++ (held ++ room)) paid
-              (pass-append grants (held ++ room) given (pass-append held room (held-pass 14 0) (granted-pass v 14 0 (omega arith)))))),
+              (pass-append grants (held ++ room) given (pass-append held room held-pass (room-pass v))))),
         ),
       )
 

@@ -9,6 +9,7 @@ use borrow.Author.Tests.{eqb-true, eq-eqb}
 use Rattle.lists.proofs.Tests.{T-true, true-T, and-left, and-right, and-both}
 use Rattle.cause.specs.Checks.{Pass}
 use Rattle.cause.specs.declared.Cause.the-variants.{MissingPool, MissingGrantPool}
+use Rattle.cause.proofs.EachLaws.{each-passes, passes-each}
 use Rattle.container.specs.Layout.{Format, granule, msgStart, bit}
 use Rattle.container.specs.Grants.{headerGrant}
 use Rattle.message.specs.Heads.{isMisc, crdtGrant}
@@ -21,7 +22,7 @@ use Rattle.placement.proofs.ProgressLaws.{listFrom, cells-of}
 use Rattle.pools.specs.Pools.{payable, grantable, startPayable, startGrantable, messageChecks, grantChecks}
 use Rattle.pools.specs.PoolRules.{PaysRight, GrantsRight, KeepsPools, grantIn}
 use Rattle.pools.specs.declared.receiver.Receiver.{Receiver}
-use Rattle.pools.proofs.GranuleLaws.{granules-pass, pass-granules}
+use Rattle.pools.proofs.GranuleLaws.{granule-checks}
 use Rattle.pools.proofs.GrantRuleLaws.{grant-exactly}
 use Rattle.pools.proofs.PaymentRuleLaws.{payment-exactly}
 
@@ -61,16 +62,16 @@ module _ (own other : Receiver) (fm : Format) (m c : List ℕ) (eight : (g : ℕ
     where
       to : Pass (messageChecks own (cells fm c 12 0 m)) × Pass (grantChecks other (headerGrant fm c) (cells fm c 12 0 m)) → KeepsPools own other fm c
       to h = record {
-        messages = λ g b s. message-exactly g b .0 (granules-pass (startPayable own) MissingPool cell 12 0 (rw cells-are at (h .0)) g (omega arith) b) s;
+        messages = λ g b s. message-exactly g b .0 (each-passes (granule-checks (startPayable own) MissingPool cell) 12 0 (rw cells-are at (h .0)) g (omega arith) b) s;
         heading = grant-exactly other (headerGrant fm c) .0 (h .1 .0);
-        grants = λ g b s i. crdt-exactly g .0 (granules-pass (startGrantable other) MissingGrantPool cell 12 0 (rw cells-are at (h .1 .1)) g (omega arith) b) s i;
+        grants = λ g b s i. crdt-exactly g .0 (each-passes (granule-checks (startGrantable other) MissingGrantPool cell) 12 0 (rw cells-are at (h .1 .1)) g (omega arith) b) s i;
       }
 
       from : KeepsPools own other fm c → Pass (messageChecks own (cells fm c 12 0 m)) × Pass (grantChecks other (headerGrant fm c) (cells fm c 12 0 m))
       from v = (
-        rw cells-are (pass-granules (startPayable own) MissingPool cell 12 0 (λ g a b. message-exactly g b .1 (v .messages g b))),
+        rw cells-are (passes-each (granule-checks (startPayable own) MissingPool cell) 12 0 (λ g a b. message-exactly g b .1 (v .messages g b))),
         (
           grant-exactly other (headerGrant fm c) .1 (v .heading),
-          rw cells-are (pass-granules (startGrantable other) MissingGrantPool cell 12 0 (λ g a b. crdt-exactly g .1 (v .grants g b))),
+          rw cells-are (passes-each (granule-checks (startGrantable other) MissingGrantPool cell) 12 0 (λ g a b. crdt-exactly g .1 (v .grants g b))),
         ),
       )

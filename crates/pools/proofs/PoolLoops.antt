@@ -2,13 +2,14 @@
 use Prim.Native.Nat.{ℕ, suc, _+_, _-_, _≤_, _<_}
 use mathlib.Core.Path.{_≡_, sym, _∙_}
 use mathlib.Core.Bool.{Bool, true, false, _&&_, not}
-use mathlib.Core.List.{List, [], _∷_}
+use mathlib.Core.List.{List, _∷_}
 use native.Mathlib.Omega.{arith}
 use borrow.Author.Tests.{not-true, not-false}
 use Rattle.cause.specs.Checks.{Check, check, firstFault}
 use Rattle.cause.specs.declared.Cause.{Cause}
 use Rattle.cause.specs.declared.Verdict.{Verdict}
 use Rattle.cause.specs.declared.Verdict.the-variants.{Accepted, Refused}
+use Rattle.cause.proofs.EachLaws.{Each}
 
 -- the pools left
 left : (p : ℕ) → p < 14 → 14 - p ≡ suc (14 - (p + 1))
@@ -36,12 +37,8 @@ module _ {tests : ℕ → ℕ → Bool} {test : ℕ → Bool} (s : Tests tests t
     pub tests-go-on : not t ≡ false → all ≡ tests (14 - (p + 1)) (p + 1)
     tests-go-on n = rw (not-false t n) at turn
 
--- the checks of k pools from p on, by the check of one pool
-pub record Checks (checks : ℕ → ℕ → List Check) (test : ℕ → Bool) (a : Cause) : Type 0 where
-  pub none : (p : ℕ) → checks 0 p ≡ []
-  pub more : (k p : ℕ) → checks (suc k) p ≡ check (test p) a p ∷ checks k (p + 1)
-
-module _ {checks : ℕ → ℕ → List Check} {test : ℕ → Bool} {a : Cause} (s : Checks checks test a) (p : ℕ) where
+-- the checks of the pools left
+module _ {checks : ℕ → ℕ → List Check} {test : ℕ → Bool} {a : Cause} (s : Each checks test a) (p : ℕ) where
   pub checks-end : 14 ≤ p → Accepted ≡ firstFault (checks (14 - p) p)
   checks-end h = rw (none-left p h, s .none p)
 
