@@ -69,7 +69,7 @@ static inline uint8_t form_start(unsigned shc, unsigned rp) {
     return (uint8_t)(shc + 2 * rp);
 }
 
-/* What a message counts for among the responses of its group. */
+/* What a message counts for among the responses of its group, and in what it pays. */
 static inline unsigned count_responses(unsigned type) {
     return type == RESP ? 1 : type == RESP2 ? 2 : 0;
 }

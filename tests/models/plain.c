@@ -140,8 +140,8 @@ unsigned plain_charges(const uint8_t *m, unsigned pools[2]) {
         pools[0] = shared ? SHARED_REQ : FIRST_PLANE + plane;
         return 1;
     case RESP: case RESP2:
-        pools[0] = RSP;
-        return 1;
+        pools[0] = pools[1] = RSP;
+        return count_responses(type);
     case SNOOP:
         pools[0] = SNP;
         return 1;
@@ -171,8 +171,7 @@ int plain_payable(const struct plain_receiver *r, const uint8_t *m) {
     }
 }
 
-/* Counts what a message pays. */
-static void count_charges(const uint8_t *m, unsigned counts[POOLS]) {
+void plain_count_charges(const uint8_t *m, unsigned counts[POOLS]) {
     unsigned pools[2], n = plain_charges(m, pools);
     for (unsigned i = 0; i < n; i++)
         counts[pools[i]]++;
@@ -201,7 +200,7 @@ static uint32_t begin_messages(const struct plain_receiver *r, unsigned starts, 
             continue;
         if (!plain_payable(r, m))
             return refuse(MISSING_POOL, g);
-        count_charges(m, begun);
+        plain_count_charges(m, begun);
     }
     return 0;
 }
@@ -265,7 +264,7 @@ static void enter(struct plain_ledger *l, unsigned d, const uint8_t *c, size_t o
     l->carry[d] = (struct plain_carry){0};
     if (owed > 0) {
         take_carry(l->format, c, &l->carry[d]);
-        count_charges(l->carry[d].bytes, open);
+        plain_count_charges(l->carry[d].bytes, open);
     }
     for (unsigned p = 0; p < POOLS; p++) {
         l->held[d][p] -= begun[p];
@@ -318,7 +317,7 @@ static int carry_valid(const struct plain_carry *carry) {
 static int pools_valid(const struct plain_ledger *l, unsigned d) {
     unsigned open[POOLS] = {0};
     if (l->carry[d].len > 0)
-        count_charges(l->carry[d].bytes, open);
+        plain_count_charges(l->carry[d].bytes, open);
     for (unsigned p = 0; p < POOLS; p++)
         if (l->open[d][p] != open[p] || (uint64_t)l->held[d][p] + open[p] > l->receiver[d].capacity[p])
             return 0;

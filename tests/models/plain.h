@@ -97,8 +97,11 @@ static inline unsigned plain_grant_pool(uint8_t form_start, unsigned i) {
     }
 }
 
-/* The pools that a well-headed message pays one credit of; answers how many. */
+/* The pools that a well-headed message pays, each as often as it pays a credit of it; answers how many credits. */
 unsigned plain_charges(const uint8_t *message, unsigned pools[2]);
+
+/* Adds what a well-headed message pays to the counts of the pools. */
+void plain_count_charges(const uint8_t *message, unsigned counts[POOLS]);
 
 /* Whether a well-headed message finds its pools, its plane even where shared credit pays, and push if it is a push message. */
 int plain_payable(const struct plain_receiver *, const uint8_t *message);

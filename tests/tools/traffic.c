@@ -57,20 +57,20 @@ static void make_form(struct limits *b, uint8_t form[5]) {
 
 /* Whether the messages' receiver has the pools of a message, and credits for it are held. */
 static int affordable(const struct limits *b, const uint8_t *m) {
-    unsigned pools[2], n = plain_charges(m, pools);
-    if (!plain_payable(b->receiver, m))
-        return 0;
-    for (unsigned i = 0; i < n; i++)
-        if (b->credit[pools[i]] == 0)
+    unsigned paid[POOLS] = {0};
+    plain_count_charges(m, paid);
+    for (unsigned p = 0; p < POOLS; p++)
+        if (paid[p] > b->credit[p])
             return 0;
-    return 1;
+    return plain_payable(b->receiver, m);
 }
 
 /* Takes what a message pays, and gives a CrdtGrant its grant. */
 static void enter(struct limits *b, uint8_t *m) {
-    unsigned pools[2], n = plain_charges(m, pools);
-    for (unsigned i = 0; i < n; i++)
-        b->credit[pools[i]]--;
+    unsigned paid[POOLS] = {0};
+    plain_count_charges(m, paid);
+    for (unsigned p = 0; p < POOLS; p++)
+        b->credit[p] -= paid[p];
     if (m[0] % 16 == MISC_U && m[1] == CRDT_GRANT)
         make_form(b, m + FORM);
 }

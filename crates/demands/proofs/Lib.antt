@@ -11,4 +11,5 @@ pub mod Demands
 pub mod Interleaving
 pub mod Service
 pub mod Delayed
+pub mod TwoResponses
 pub mod Examples

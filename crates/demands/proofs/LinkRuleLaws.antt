@@ -14,6 +14,7 @@ use Rattle.cause.specs.Checks.{Pass, firstFault, passes}
 use Rattle.container.specs.Layout.{Format, formatOf, granule}
 use Rattle.container.specs.Grants.{headerGrant}
 use Rattle.container.proofs.Formats.{lawful-of}
+use Rattle.message.proofs.ChargeLaws.{responses-pay}
 use Rattle.placement.specs.Cells.{cellAt, after, cells, startings}
 use Rattle.reader.specs.Reading.{carried, stateChecks}
 use Rattle.placement.specs.Rules.{Rules, startBit}
@@ -25,7 +26,7 @@ use Rattle.reader.proofs.ReadRules.{carry-exactly}
 use Rattle.pools.specs.Pools.{messageChecks, grantChecks}
 use Rattle.pools.specs.PoolRules.{KeepsPools}
 use Rattle.pools.specs.declared.receiver.Receiver.{Receiver}
-use Rattle.pools.proofs.PaymentRuleLaws.{pays-exactly}
+use Rattle.pools.proofs.PaymentRuleLaws.{pays-exactly, responses-counted}
 use Rattle.pools.proofs.GrantRuleLaws.{gives-exactly}
 use Rattle.pools.proofs.KeepsPoolsLaws.{pools-exactly}
 use Rattle.history.specs.Link.{opposite}
@@ -88,5 +89,7 @@ link-rules = record {
   reads-exactly = λ f a b d s c valid. test-exactly (receiverFor a b d) (receiverFor a b (opposite d)) s c valid;
   starts-are = starts-all;
   pays-exactly = pays-exactly;
+  responses-pay = responses-pay;
+  responses-counted = responses-counted;
   gives-exactly = gives-exactly;
 }

@@ -21,7 +21,8 @@ use Rattle.container.specs.Layout.{formatOf}
 use Rattle.container.specs.Grants.{headerGrant}
 use Rattle.container.specs.declared.grant.Grant.{Grant}
 use Rattle.message.specs.Heads.{typeOf, classOf}
-use Rattle.message.specs.Charges.{charges, resPlane, sharedCrdt, reqPool, datPool, pushPool, oneOf, paidBy, listed}
+use Rattle.message.specs.Places.{responsesBy}
+use Rattle.message.specs.Charges.{charges, resPlane, sharedCrdt, reqPool, datPool, pushPool, creditsOf, oneOf, paidBy, listed}
 use Rattle.message.specs.declared.charge.Charge.{Charge}
 use Rattle.message.specs.declared.heads.Class.{Class}
 use Rattle.message.specs.declared.heads.Class.the-variants.{Unknown, Request, Response, Snoop, Data, RequestData, Misc}
@@ -83,8 +84,8 @@ planes-most r e =
     leb-true (r .planes) 8 (and-right (leb 1 (r .planes)) (leb (r .planes) 8) (and-left (leb 1 (r .planes) && leb (r .planes) 8) (capacitiesOk r 14 0) e))
 
 -- what is charged to a pool below 14 is not charged past it
-charged-past : (q p : ℕ) (cs : List Charge) → q < 14 → 14 ≤ p → chargedTo p cs ≡ 0 → chargedTo p (oneOf q ∷ cs) ≡ 0
-charged-past q p cs b h e = rw (ne-eqb q p (λ (z : q ≡ p). omega arith), e)
+charged-past : (k q p : ℕ) (cs : List Charge) → q < 14 → 14 ≤ p → chargedTo p cs ≡ 0 → chargedTo p (creditsOf k q ∷ cs) ≡ 0
+charged-past k q p cs b h e = rw (ne-eqb q p (λ (z : q ≡ p). omega arith), e)
 
 req-below : (first : ℕ) → resPlane first < 8 → reqPool first < 14
 req-below first h = ⊎-elim (λ (t : sharedCrdt first ≡ true). rw t (omega arith)) (λ (t : sharedCrdt first ≡ false). rw t (omega arith)) (cases (sharedCrdt first))
@@ -103,18 +104,19 @@ module _ (r : Receiver) (v : receiverOk r ≡ true) (p : ℕ) (h : 14 ≤ p) whe
       let b = ltb-true (resPlane first) (r .planes) e in
       req-below first (omega arith)
 
-  paid-class : (k : Class) (first second : ℕ) → (not (paysReq k) || ltb (resPlane first) (r .planes)) ≡ true → chargedTo p (listed (paidBy k first second)) ≡ 0
-  paid-class Unknown first second e = refl
-  paid-class Request first second e = charged-past (reqPool first) p [] (plane-below first e) h refl
-  paid-class Response first second e = charged-past 9 p [] (omega arith) h refl
-  paid-class Snoop first second e = charged-past 10 p [] (omega arith) h refl
-  paid-class Data first second e = charged-past (datPool first) p [] (dat-below first) h refl
-  paid-class RequestData first second e =
-      charged-past (reqPool first) p (oneOf (pushPool second) ∷ []) (plane-below first e) h (charged-past (pushPool second) p [] (push-below second) h refl)
-  paid-class Misc first second e = refl
+  paid-class : (k : Class) (t first second : ℕ) → (not (paysReq k) || ltb (resPlane first) (r .planes)) ≡ true
+      → chargedTo p (listed (paidBy k t first second)) ≡ 0
+  paid-class Unknown t first second e = refl
+  paid-class Request t first second e = charged-past 1 (reqPool first) p [] (plane-below first e) h refl
+  paid-class Response t first second e = charged-past (responsesBy t) 9 p [] (omega arith) h refl
+  paid-class Snoop t first second e = charged-past 1 10 p [] (omega arith) h refl
+  paid-class Data t first second e = charged-past 1 (datPool first) p [] (dat-below first) h refl
+  paid-class RequestData t first second e =
+      charged-past 1 (reqPool first) p (oneOf (pushPool second) ∷ []) (plane-below first e) h (charged-past 1 (pushPool second) p [] (push-below second) h refl)
+  paid-class Misc t first second e = refl
 
   paid-past : (m : List ℕ) → payable r m ≡ true → chargedTo p (charges m) ≡ 0
-  paid-past m e = paid-class (classOf (typeOf m)) (getD m 0 0) (getD m 1 0) (and-left (not (paysReq (classOf (typeOf m))) || ltb (resPlane (getD m 0 0)) (r .planes)) _ e)
+  paid-past m e = paid-class (classOf (typeOf m)) (typeOf m) (getD m 0 0) (getD m 1 0) (and-left (not (paysReq (classOf (typeOf m))) || ltb (resPlane (getD m 0 0)) (r .planes)) _ e)
 
   pub paid-none : (ms : List (List ℕ)) → All (λ m. payable r m ≡ true) ms → paidTo p ms ≡ 0
   unfolding paidTo

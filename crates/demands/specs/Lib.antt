@@ -9,6 +9,7 @@ pub mod Demand3
 pub mod Marked
 pub mod Pinned
 pub mod Delayed
+pub mod TwoResponses
 pub mod Beneath
 pub mod Interleaving
 pub mod Service

@@ -10,8 +10,8 @@ use lib.Dec.{eqb}
 use Rattle.lists.specs.Pick.{pick}
 use Rattle.container.specs.Layout.{Format, formatOf, granule}
 use Rattle.container.specs.declared.grant.Grant.{Grant}
-use Rattle.message.specs.Charges.{charges}
-use Rattle.message.specs.HeadRules.{byte}
+use Rattle.message.specs.Charges.{charges, ResponsesPay}
+use Rattle.message.specs.HeadRules.{byte, responseCount}
 use Rattle.reader.specs.Reading.{carried}
 use Rattle.placement.specs.Rules.{Rules, startBit}
 use Rattle.reader.specs.ValidState.{ValidState}
@@ -43,6 +43,11 @@ pub record LinkRules : Type 0 where
   pub starts-are : (s : Reader) (c : List ℕ) → startsIn s c ≡ startedIn (formatOf (s .format)) c 12
   -- a message is counted in a pool exactly where it pays it, with the credits that it pays
   pub pays-exactly : (m : List ℕ) (p k : ℕ) → byte m 0 < 256 → Pays m p k ↔ ((chargedTo p (charges m) ≡ k) × (0 < k))
+  -- a Resp pays one RSP credit and a Resp2 two (document 02, K3)
+  pub responses-pay : ResponsesPay
+  -- "Demand 3 reads "responses" for "messages" in pool 9" (document 02, K3): a message is counted there as often as it counts among the
+  -- responses of its group
+  pub responses-counted : (m : List ℕ) → byte m 0 < 256 → chargedTo 9 (charges m) ≡ responseCount m
   -- a grant is counted in a pool with the count that it gives, and with nothing where it gives none
   pub gives-exactly : (n : Grant) → n .rp ≤ 7 → (p : ℕ) → p < 14
       → ((k : ℕ) → Gives n p k → grantedBy p n ≡ k) × (((k : ℕ) → Gives n p k → ⊥) → grantedBy p n ≡ 0)

@@ -1,5 +1,5 @@
 -- Cause and place of short examples, in the paper's numbers, as one statement about the definitions: each reading cause, the granules that
--- 14 and 21 name, the pools that 15 and 16 name, and the writer's.
+-- 14 and 21 name, the pools that 15 and 16 name, what a Resp2 pays, and the writer's.
 use Prim.Native.Nat.{ℕ}
 use mathlib.Core.Path.{_≡_}
 use mathlib.Core.Bool.{Bool, true, false}
@@ -13,7 +13,8 @@ use Rattle.writer.specs.declared.writer.Answer.{Answer}
 use Rattle.writer.specs.declared.writer.Answer.the-variants.{Accepted, Refused}
 use Rattle.ledger.specs.Audit.{freshLedger}
 use Rattle.pools.specs.declared.receiver.Receiver.{Receiver}
-use Rattle.demands.specs.Marked.{withBytes, readTold, answersTo, call}
+use Rattle.history.specs.Calls.{Call}
+use Rattle.demands.specs.Marked.{withBytes, receiverWith, readTold, answersTo, call, grantsResponses}
 
 -- cause and place of a container of zeros but for some bytes, read by a new reader; in X P0 is byte 126, in Y byte 246
 abbrev pub x : List (ℕ × ℕ) → ℕ × ℕ
@@ -33,6 +34,14 @@ auditedBetween a b d bs = answersTo (freshLedger 0 a b) (call d bs ∷ [])
 -- the same with two receivers alike
 abbrev pub audited : ℕ → Bool → ℕ → List (ℕ × ℕ) → List (ℕ × ℕ)
 audited n push = auditedBetween (bare n push) (bare n push)
+
+-- the audit's answers to entries in X, with two buffers of pools 9 and 11 in each direction
+abbrev pub answered : List (Call (List ℕ)) → List (ℕ × ℕ)
+answered = answersTo (freshLedger 0 (receiverWith 2) (receiverWith 2))
+
+-- a message of type t in G0
+abbrev pub response : ℕ → List (ℕ × ℕ)
+response t = (126, 1) ∷ (0, t) ∷ []
 
 -- cause and place of a fill in X
 abbrev pub fillTold : Answer → ℕ × ℕ
@@ -116,6 +125,13 @@ pub record Pinned : Type 0 where
   pub over-req : audited 2 true 0 ((188, 2) ∷ (189, 1) ∷ []) ≡ (16, 2) ∷ []
   pub over-dat : audited 2 true 0 ((188, 1) ∷ (252, 1) ∷ []) ≡ (16, 11) ∷ []
   pub begun-first : audited 2 true 0 ((126, 1) ∷ (0, 5) ∷ (190, 1) ∷ []) ≡ (15, 10) ∷ []
+  -- a Resp2 pays two (document 02, K3), with two buffers of pool 9: one credit is not enough, two are and both are gone, and a Resp beside it
+  -- needs a third; two slots come back, where a Resp gives one back
+  pub resp2-on-one : answered (call 1 (grantsResponses 1) ∷ call 0 (response 4) ∷ []) ≡ (0, 0) ∷ (15, 9) ∷ []
+  pub resp2-on-two : answered (call 1 (grantsResponses 2) ∷ call 0 (response 4) ∷ call 0 (response 3) ∷ []) ≡ (0, 0) ∷ (0, 0) ∷ (15, 9) ∷ []
+  pub resp-beside : answered (call 1 (grantsResponses 2) ∷ call 0 ((126, 3) ∷ (0, 3) ∷ (20, 4) ∷ []) ∷ []) ≡ (0, 0) ∷ (15, 9) ∷ []
+  pub two-slots : answered (call 1 (grantsResponses 2) ∷ call 0 (response 4) ∷ call 1 (grantsResponses 2) ∷ []) ≡ (0, 0) ∷ (0, 0) ∷ (0, 0) ∷ []
+  pub one-slot : answered (call 1 (grantsResponses 2) ∷ call 0 (response 3) ∷ call 1 (grantsResponses 2) ∷ []) ≡ (0, 0) ∷ (0, 0) ∷ (16, 9) ∷ []
   -- 4 and 17 of the writer: plane 8, ShC 1 with plane 1; the second record, at byte 11, is broken
   pub plane-8 : fills [] false 8 ≡ (4, 0)
   pub fill-shared : fills (128 ∷ 0 ∷ []) true 1 ≡ (4, 0)

@@ -47,32 +47,32 @@ or-none : (b : Bool) → b ≡ (b || false)
 or-none true = refl
 or-none false = refl
 
-kinds-charged : (c : Class) (first second k : ℕ) → first < 256 → (k ≡ free → ⊥) → paysBy c k ≡ charged k (listed (paidBy c first second))
-kinds-charged Unknown first second k b d = ne-eqb k free d
-kinds-charged Request first second k b d = rw (req-kind first b) (or-none (eqb k 0))
-kinds-charged Response first second k b d = or-none (eqb k 1)
-kinds-charged Snoop first second k b d = or-none (eqb k 2)
-kinds-charged Data first second k b d = rw (dat-kind first) (or-none (eqb k 3))
-kinds-charged RequestData first second k b d = rw (req-kind first b, push-kind second) (ap (λ (x : Bool). eqb k 0 || x) (or-none (eqb k 3)))
-kinds-charged Misc first second k b d = ne-eqb k free d
+kinds-charged : (c : Class) (t first second k : ℕ) → first < 256 → (k ≡ free → ⊥) → paysBy c k ≡ charged k (listed (paidBy c t first second))
+kinds-charged Unknown t first second k b d = ne-eqb k free d
+kinds-charged Request t first second k b d = rw (req-kind first b) (or-none (eqb k 0))
+kinds-charged Response t first second k b d = or-none (eqb k 1)
+kinds-charged Snoop t first second k b d = or-none (eqb k 2)
+kinds-charged Data t first second k b d = rw (dat-kind first) (or-none (eqb k 3))
+kinds-charged RequestData t first second k b d = rw (req-kind first b, push-kind second) (ap (λ (x : Bool). eqb k 0 || x) (or-none (eqb k 3)))
+kinds-charged Misc t first second k b d = ne-eqb k free d
 
 -- a test that fails, and a list that is not empty
 neither : {A : Type 0} {x : A} {l : List A} → (false ≡ true) ↔ (x ∷ l ≡ [])
 neither = (λ e. absurd (never-both refl e), λ e. let z : _≡_ {A = ℕ} 0 1 = cc in absurd (omega arith))
 
-nothing-charged : (c : Class) (first second : ℕ) → (paysBy c free ≡ true) ↔ (listed (paidBy c first second) ≡ [])
-nothing-charged Unknown first second = (λ _. refl, λ _. refl)
-nothing-charged Request first second = neither
-nothing-charged Response first second = neither
-nothing-charged Snoop first second = neither
-nothing-charged Data first second = neither
-nothing-charged RequestData first second = neither
-nothing-charged Misc first second = (λ _. refl, λ _. refl)
+nothing-charged : (c : Class) (t first second : ℕ) → (paysBy c free ≡ true) ↔ (listed (paidBy c t first second) ≡ [])
+nothing-charged Unknown t first second = (λ _. refl, λ _. refl)
+nothing-charged Request t first second = neither
+nothing-charged Response t first second = neither
+nothing-charged Snoop t first second = neither
+nothing-charged Data t first second = neither
+nothing-charged RequestData t first second = neither
+nothing-charged Misc t first second = (λ _. refl, λ _. refl)
 
 pub pays-charged : (m : List ℕ) → Message m → PaysAsCharged m
 pays-charged m h = record {
-  kinds = λ k d. kinds-charged (classOf (typeOf m)) (getD m 0 0) (getD m 1 0) k (first-byte m h) d;
-  nothing = nothing-charged (classOf (typeOf m)) (getD m 0 0) (getD m 1 0);
+  kinds = λ k d. kinds-charged (classOf (typeOf m)) (typeOf m) (getD m 0 0) (getD m 1 0) k (first-byte m h) d;
+  nothing = nothing-charged (classOf (typeOf m)) (typeOf m) (getD m 0 0) (getD m 1 0);
 }
 
 -- ---- longer messages

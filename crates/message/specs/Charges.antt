@@ -1,11 +1,13 @@
--- What a message pays (document 01, "Message heads" and "Pools and the audit"): a list of pools with amounts.
+-- What a message pays (document 01, "Message heads" and "Pools and the audit", with document 02, K3): a list of pools with amounts.
 use Prim.Native.Nat.{ℕ, _+_, _/_, _%_}
+use mathlib.Core.Path.{_≡_}
 use mathlib.Core.Bool.{Bool}
 use mathlib.Core.List.{List, [], _∷_}
 use lib.ListN.{getD}
 use lib.Dec.{eqb}
 use Rattle.lists.specs.Pick.{pick}
 use Rattle.message.specs.Heads.{typeOf, classOf}
+use Rattle.message.specs.Places.{responsesBy}
 use Rattle.message.specs.declared.heads.Class.{Class}
 use Rattle.message.specs.declared.heads.Class.the-variants.{Unknown, Request, Response, Snoop, Data, RequestData, Misc}
 use Rattle.message.specs.declared.charge.Charge.{Charge}
@@ -50,22 +52,26 @@ datPool byte0 = pick (sharedCrdt byte0) sharedDat dataDat
 abbrev pub pushPool : ℕ → ℕ
 pushPool byte1 = pick (eqb (byte1 % 2) 1) sharedDat pushDat
 
--- one credit of a pool
-abbrev pub oneOf : ℕ → Charge
-oneOf p = record { pool = p; amount = 1 }
+-- n credits of a pool, and one
+abbrev pub creditsOf : ℕ → ℕ → Charge
+creditsOf n p = record { pool = p; amount = n }
 
--- what a class pays, by bytes 0 and 1
-abbrev pub paidBy : Class → ℕ → ℕ → Charges
-paidBy Unknown byte0 byte1 = Free
-paidBy Request byte0 byte1 = One (oneOf (reqPool byte0))
-paidBy Response byte0 byte1 = One (oneOf rspPool)
-paidBy Snoop byte0 byte1 = One (oneOf snpPool)
-paidBy Data byte0 byte1 = One (oneOf (datPool byte0))
-paidBy RequestData byte0 byte1 = Two (oneOf (reqPool byte0)) (oneOf (pushPool byte1))
-paidBy Misc byte0 byte1 = Free
+abbrev pub oneOf : ℕ → Charge
+oneOf p = creditsOf 1 p
+
+-- what a class pays, by the type and bytes 0 and 1: a credit for each response, as many as the type counts for in its group, and else one of
+-- each pool
+abbrev pub paidBy : Class → ℕ → ℕ → ℕ → Charges
+paidBy Unknown t byte0 byte1 = Free
+paidBy Request t byte0 byte1 = One (oneOf (reqPool byte0))
+paidBy Response t byte0 byte1 = One (creditsOf (responsesBy t) rspPool)
+paidBy Snoop t byte0 byte1 = One (oneOf snpPool)
+paidBy Data t byte0 byte1 = One (oneOf (datPool byte0))
+paidBy RequestData t byte0 byte1 = Two (oneOf (reqPool byte0)) (oneOf (pushPool byte1))
+paidBy Misc t byte0 byte1 = Free
 
 abbrev pub chargesBy : ℕ → ℕ → ℕ → Charges
-chargesBy t byte0 byte1 = paidBy (classOf t) byte0 byte1
+chargesBy t byte0 byte1 = paidBy (classOf t) t byte0 byte1
 
 -- the charges as a list, REQ before DAT
 abbrev pub listed : Charges → List Charge
@@ -75,3 +81,10 @@ listed (Two a b) = a ∷ b ∷ []
 
 abbrev pub charges : List ℕ → List Charge
 charges m = listed (chargesBy (typeOf m) (getD m 0 0) (getD m 1 0))
+
+-- what responses pay, in numbers
+pub record ResponsesPay : Type 0 where
+  -- "3 / 4 | Resp / Resp2 | 10 / 20 | one RSP", which stays so for Resp
+  pub resp : (m : List ℕ) → typeOf m ≡ 3 → charges m ≡ record { pool = 9; amount = 1 } ∷ []
+  -- "From now on Resp2 pays two RSP credits" (document 02, K3)
+  pub resp2 : (m : List ℕ) → typeOf m ≡ 4 → charges m ≡ record { pool = 9; amount = 2 } ∷ []

@@ -58,7 +58,7 @@ msgSize m = sizeBy (typeOf m) (opOf m)
 abbrev pub known : List ℕ → Bool
 known m = ltb 0 (msgSize m)
 
--- what a type pays: one REQ, one RSP, one SNP, one DAT, one REQ and one DAT, or nothing
+-- which credits a type pays: REQ, RSP, SNP, DAT, REQ and DAT, or none
 abbrev pub classes : List Class
 classes = Unknown ∷ Request ∷ Request ∷ Response ∷ Response ∷ Snoop ∷ Data ∷ Data ∷ RequestData ∷ RequestData ∷ Misc ∷ []
 

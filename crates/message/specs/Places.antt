@@ -22,7 +22,7 @@ placedBy fm g t o = fitsIn fm g t o && firstOnly g t o
 abbrev pub placed : Format → ℕ → List ℕ → Bool
 placed fm g m = placedBy fm g (typeOf m) (opOf m)
 
--- the responses that a message counts for in its group: Resp one, Resp2 two
+-- the responses that a message counts for, in its group and in what it pays: Resp one, Resp2 two
 abbrev pub responsesBy : ℕ → ℕ
 responsesBy t = pick (eqb t resp) 1 (pick (eqb t resp2) 2 0)
 

@@ -10,6 +10,7 @@ use crate::codes::SHARED_REQ;
 use crate::codes::SNP;
 use crate::heads::Class;
 use crate::heads::classify_message;
+use crate::place::count_responses;
 
 // An amount of credits of one pool.
 pub struct Charge {
@@ -67,7 +68,7 @@ pub fn charge_message(msgtype: u8, byte0: u8, byte1: u8) -> Charges
         }),
         Class::Response => Charges::One(Charge {
             pool: RSP,
-            amount: 1,
+            amount: count_responses(msgtype),
         }),
         Class::Snoop => Charges::One(Charge {
             pool: SNP,

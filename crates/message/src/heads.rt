@@ -27,7 +27,7 @@ use slices::byte_at;
 use slices::is_zero;
 use slices::is_zero_from;
 
-// What a message pays, by its type.
+// Which credits a message pays, by its type.
 pub enum Class {
     Unknown,
     Request,

@@ -20,6 +20,7 @@ pub use codes::PUSH_DAT;
 pub use codes::REQ_PLANE_0;
 pub use codes::REQ_S;
 pub use codes::RESP;
+pub use codes::RESP2;
 pub use codes::RSP;
 pub use codes::SHARED_DAT;
 pub use codes::SHARED_REQ;

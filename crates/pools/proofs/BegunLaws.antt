@@ -86,5 +86,5 @@ module _ (r : Receiver) (c : List ℕ) (w : ℕ) where
 pub paid-most : (c : List ℕ) (w : ℕ) → IsBytes c → (g p : ℕ) → paidAt c w g p ≤ 255
 paid-most c w h g p =
     let q = chargesBy (firstAt c g % 16) (firstAt c g) (secondAt c g) in
-    let m = taken-most q (all-chargeable (firstAt c g) (secondAt c g) (h (start g)) (classOf (firstAt c g % 16))) p in
+    let m = taken-most q (all-chargeable (firstAt c g % 16) (firstAt c g) (secondAt c g) (h (start g)) (classOf (firstAt c g % 16))) p in
     pick-both (λ (n : ℕ). n ≤ 255) (bit w g) (omega arith) (omega arith)

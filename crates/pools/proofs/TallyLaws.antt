@@ -14,12 +14,14 @@ use Rattle.lists.proofs.Tests.{cases}
 use Rattle.lists.proofs.PickLaws.{pick-both}
 use Rattle.lists.proofs.ZeroLaws.{zeros-at, zeros-replicate}
 use Rattle.lists.proofs.Order.{lt-or-le}
-use Rattle.message.specs.Charges.{sharedCrdt, reqPool, datPool, pushPool, oneOf, paidBy, listed}
+use Rattle.message.specs.Places.{responsesBy}
+use Rattle.message.specs.Charges.{sharedCrdt, reqPool, datPool, pushPool, creditsOf, oneOf, paidBy, listed}
 use Rattle.message.specs.declared.heads.Class.{Class}
 use Rattle.message.specs.declared.heads.Class.the-variants.{Unknown, Request, Response, Snoop, Data, RequestData, Misc}
 use Rattle.message.specs.declared.charge.Charge.{Charge}
 use Rattle.message.specs.declared.charge.Charges.{Charges}
 use Rattle.message.specs.declared.charge.Charges.the-variants.{Free, One, Two}
+use Rattle.message.proofs.PlaceLaws.{responses-most}
 use Rattle.pools.specs.Pools.{chargedTo}
 use Rattle.pools.specs.Rows.{row, raised, Small}
 use Rattle.pools.proofs.RowLaws.{length-row, row-at, row-same, row-equal, row-past}
@@ -92,10 +94,10 @@ one-fits pool amount h b f = ((h .long, b), omega (arith, h .most pool))
 pub counts-one : {n : ℕ} {l d : List ℕ} (pool amount k : ℕ) → Counts n l → amount ≤ k → d ≡ raised (oneMore pool amount) l → Counts (n + k) d
 counts-one pool amount k h b = counts-raised (oneMore pool amount) h (λ p. pick-both (λ (x : ℕ). x ≤ k) (eqb pool p) b (omega arith))
 
--- a charge of a pool that there is, of at most one credit
+-- a charge of a pool that there is, of at most two credits
 pub record Chargeable (a : Charge) : Type 0 where
   pub pooled : a .pool < 14
-  pub little : a .amount ≤ 1
+  pub little : a .amount ≤ 2
 
 abbrev pub AllChargeable : Charges → Type 0
 AllChargeable Free = Unit {0}
@@ -105,8 +107,8 @@ AllChargeable (Two a b) = Chargeable a × Chargeable b
 one-of : (p : ℕ) → p < 14 → Chargeable (oneOf p)
 one-of p b = record { pooled = b; little = omega arith }
 
--- what a message pays, by bytes 0 and 1
-module _ (first second : ℕ) (byte : first < 256) where
+-- what a message pays, by its type and bytes 0 and 1
+module _ (t first second : ℕ) (byte : first < 256) where
   req : Chargeable (oneOf (reqPool first))
   req = one-of (reqPool first) (pick-both (λ (p : ℕ). p < 14) (sharedCrdt first) (omega arith) (omega arith))
 
@@ -116,10 +118,13 @@ module _ (first second : ℕ) (byte : first < 256) where
   push : Chargeable (oneOf (pushPool second))
   push = one-of (pushPool second) (pick-both (λ (p : ℕ). p < 14) (eqb (second % 2) 1) (omega arith) (omega arith))
 
-  pub all-chargeable : (k : Class) → AllChargeable (paidBy k first second)
+  rsp : Chargeable (creditsOf (responsesBy t) 9)
+  rsp = record { pooled = omega arith; little = responses-most t }
+
+  pub all-chargeable : (k : Class) → AllChargeable (paidBy k t first second)
   all-chargeable Unknown = tt
   all-chargeable Request = req
-  all-chargeable Response = one-of 9 (omega arith)
+  all-chargeable Response = rsp
   all-chargeable Snoop = one-of 10 (omega arith)
   all-chargeable Data = dat
   all-chargeable RequestData = (req, push)
@@ -129,10 +134,10 @@ module _ (first second : ℕ) (byte : first < 256) where
 abbrev pub taken : Charges → ℕ → ℕ
 taken q p = chargedTo p (listed q)
 
-charge-most : (a : Charge) (p : ℕ) → Chargeable a → oneMore (a .pool) (a .amount) p ≤ 1
-charge-most a p h = pick-both (λ (n : ℕ). n ≤ 1) (eqb (a .pool) p) (h .little) (omega arith)
+charge-most : (a : Charge) (p : ℕ) → Chargeable a → oneMore (a .pool) (a .amount) p ≤ 2
+charge-most a p h = pick-both (λ (n : ℕ). n ≤ 2) (eqb (a .pool) p) (h .little) (omega arith)
 
-pub taken-most : (q : Charges) → AllChargeable q → (p : ℕ) → taken q p ≤ 2
+pub taken-most : (q : Charges) → AllChargeable q → (p : ℕ) → taken q p ≤ 4
 taken-most Free h p = omega arith
 taken-most (One a) h p = omega (arith, charge-most a p h)
 taken-most (Two a b) h p = omega (arith, charge-most a p (h .0), charge-most b p (h .1))
@@ -161,7 +166,7 @@ module _ (q : Charges) (l : List ℕ) (long : length l ≡ 14) (small : Small l)
       pub pay-second : AllChargeable q → ((length d ≡ 14) × (b .pool < 14)) × (getD d (b .pool) 0 + b .amount < 2 ^ 32)
       pay-second h =
           let k : Chargeable a × Chargeable b = rw e at h in
-          one-fits (b .pool) (b .amount) (counts-one (a .pool) (a .amount) 1 counts (k .0 .little) u) (k .1 .pooled) (omega (arith, k .1 .little))
+          one-fits (b .pool) (b .amount) (counts-one (a .pool) (a .amount) 2 counts (k .0 .little) u) (k .1 .pooled) (omega (arith, k .1 .little))
 
       pub pay-two : (x : List ℕ) → x ≡ raised (oneMore (b .pool) (b .amount)) d → x ≡ raised (taken q) l
       pay-two x v =

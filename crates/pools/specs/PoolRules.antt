@@ -1,5 +1,5 @@
--- Pools, what messages pay and what grants give (document 01, "Message heads" and "Pools and the audit"), sentence by sentence. No test of
--- the checks is named here.
+-- Pools, what messages pay and what grants give (document 01, "Message heads" and "Pools and the audit", with document 02, K3), sentence by
+-- sentence. No test of the checks is named here.
 use Prim.Native.Nat.{ℕ, _+_, _/_, _%_, _≤_, _<_}
 use mathlib.Core.Path.{_≡_}
 use mathlib.Core.Bool.{true, false}
@@ -61,7 +61,9 @@ pub data Pays (m : List ℕ) : ℕ → ℕ → Type 0 where
   -- pool, credits
   shared-req : PaysReq m → Shared m → Pays m 0 1
   req : PaysReq m → (Shared m → ⊥) → Pays m (1 + plane m) 1
-  rsp : OfType (3 ∷ 4 ∷ []) m → Pays m 9 1
+  rsp : OfType (3 ∷ []) m → Pays m 9 1
+  -- "From now on Resp2 pays two RSP credits" (K3)
+  rsp2 : OfType (4 ∷ []) m → Pays m 9 2
   snp : OfType (5 ∷ []) m → Pays m 10 1
   shared-dat : IsData m → Shared m → Pays m 11 1
   dat : IsData m → (Shared m → ⊥) → Pays m 12 1

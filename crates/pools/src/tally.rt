@@ -22,6 +22,7 @@ use message::DATA_L;
 use message::DATA_S;
 use message::REQ_S;
 use message::RESP;
+use message::RESP2;
 use message::RSP;
 use message::SNOOP;
 use message::SNP;
@@ -111,11 +112,12 @@ fn choose_pool(msgtype: u8, byte0: u8) -> u8
     }
 }
 
-// The credits that a message pays of that pool.
+// The credits that a message pays of that pool: two for a Resp2, one for any other that pays.
 fn count_credits(msgtype: u8) -> u32
-    ensures { λ r. ⌜ r ≡ pick (leb 1 msgtype && ltb msgtype 10) 1 0 ⌝ }
+    ensures { λ r. ⌜ r ≡ pick (eqb msgtype 4) 2 (pick (leb 1 msgtype && ltb msgtype 10) 1 0) ⌝ }
 {
     match msgtype {
+        RESP2 => 2,
         REQ_S..=WR_REQ_DATA_L => 1,
         0 | 10..=255 => 0,
     }

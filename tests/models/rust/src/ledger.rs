@@ -188,11 +188,11 @@ impl Ledger {
     }
 }
 
-/// The pools that a message pays, REQ before DAT.
+/// The pools that a message pays, REQ before DAT, each as often as it pays a credit of it.
 pub fn payments(message: &[u8]) -> Vec<usize> {
     match Kind::of(message) {
         Some(Kind::ReqS | Kind::ReqL) => vec![request_pool(message)],
-        Some(Kind::Resp | Kind::Resp2) => vec![RSP],
+        Some(kind @ (Kind::Resp | Kind::Resp2)) => vec![RSP; kind.responses()],
         Some(Kind::Snoop) => vec![SNP],
         Some(Kind::DataS | Kind::DataL) if is_shared(message) => vec![SHARED_DAT],
         Some(Kind::DataS | Kind::DataL) => vec![DEDICATED_0],

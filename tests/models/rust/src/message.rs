@@ -135,7 +135,7 @@ impl Kind {
         }
     }
 
-    /// What the message counts for in the limit of four responses.
+    /// What the message counts for in the limit of four responses and in what it pays.
     pub fn responses(self) -> usize {
         match self {
             Kind::Resp => 1,

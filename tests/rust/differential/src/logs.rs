@@ -236,6 +236,11 @@ impl Limits {
         amount as u8
     }
 
+    /// Whether the credits held cover a payment, which names a pool as often as it pays a credit of it.
+    fn covers(&self, payment: &[usize]) -> bool {
+        payment.iter().all(|&pool| self.held[pool] >= payment.iter().filter(|&&paid| paid == pool).count() as u64)
+    }
+
     /// A message of a legal kind that has credits, most of the time; none if none is found.
     fn message(&mut self, random: &mut Random, legal: &[Kind]) -> Option<Vec<u8>> {
         if legal.is_empty() {
@@ -255,7 +260,7 @@ impl Limits {
                 message[0] = message[0] & 31 | plane << 5;
             }
             let pools = payments(&message);
-            let pays = self.receiver.is_payable(&message) && pools.iter().all(|&pool| self.held[pool] > 0);
+            let pays = self.receiver.is_payable(&message) && self.covers(&pools);
             if pays || random.once_in(4 * self.sloppy) {
                 for pool in pools {
                     self.held[pool] = self.held[pool].saturating_sub(1);

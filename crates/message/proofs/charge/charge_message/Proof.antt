@@ -18,6 +18,9 @@ choose-req-requires c κs = search needs
 enum-told-3 : tie.Need-enum-told-3
 enum-told-3 c = search needs
 
+count-responses-requires : tie.Need-count-responses-requires
+count-responses-requires c κs = search needs
+
 enum-told-4 : tie.Need-enum-told-4
 enum-told-4 c = search needs
 
@@ -46,7 +49,7 @@ returns-2 : tie.Need-returns-2
 returns-2 c = rw (← c .before .before .before .classify-message .ensures, c .before .enum-told2 .given .1, c .choose-req .ensures)
 
 returns-3 : tie.Need-returns-3
-returns-3 c = rw (← c .before .before .classify-message .ensures, c .enum-told3 .given .1)
+returns-3 c = rw (← c .before .before .before .classify-message .ensures, c .before .enum-told3 .given .1, c .count-responses .ensures)
 
 returns-4 : tie.Need-returns-4
 returns-4 c = rw (← c .before .before .classify-message .ensures, c .enum-told4 .given .1)
@@ -69,6 +72,7 @@ charge-message-spec =
     enum-told-2
     choose-req-requires
     enum-told-3
+    count-responses-requires
     enum-told-4
     enum-told-5
     choose-dat-requires

@@ -15,7 +15,7 @@ abbrev charged : tie.Start → Charges
 charged s = chargesBy (s .args .byte0 % 16) (s .args .byte0) (s .args .byte1)
 
 able : (s : tie.Start) → AllChargeable (charged s)
-able s = all-chargeable (s .args .byte0) (s .args .byte1) (omega arith) (classOf (s .args .byte0 % 16))
+able s = all-chargeable (s .args .byte0 % 16) (s .args .byte0) (s .args .byte1) (omega arith) (classOf (s .args .byte0 % 16))
 
 charge-message-requires : tie.Need-charge-message-requires
 charge-message-requires c κs = search needs
