@@ -20,17 +20,16 @@ use Rattle.pools.proofs.TallyLaws.{oneMore, taken, raised-same, raised-
 
 -- the credits that a type pays of its pool, and for push data
 abbrev pub credits : ℕ → ℕ
-credits t = pick (eqb t 4) 2 (pick (leb 1 t && ltb t 10) 1 0)
+credits t = pick (leb 1 t && ltb t 10) 1 0 + pick (eqb t 4) 1 0
 
 abbrev pub pushes : ℕ → ℕ
 pushes t = pick (leb 8 t && ltb t 10) 1 0
 
-credits-most : (t : ℕ) → credits t ≤ 2
-credits-most t =
-    pick-both (λ (n : ℕ). n ≤ 2) (eqb t 4) (omega arith) (pick-both (λ (n : ℕ). n ≤ 2) (leb 1 t && ltb t 10) (omega arith) (omega arith))
+pub one-most : (t : Bool) → pick t 1 0 ≤ 1
+one-most t = pick-both (λ (n : ℕ). n ≤ 1) t (omega arith) (omega arith)
 
-pushes-most : (t : ℕ) → pushes t ≤ 1
-pushes-most t = pick-both (λ (n : ℕ). n ≤ 1) (leb 8 t && ltb t 10) (omega arith) (omega arith)
+credits-most : (t : ℕ) → credits t ≤ 2
+credits-most t = omega (arith, one-most (leb 1 t && ltb t 10), one-most (eqb t 4))
 
 -- each is a pool
 pool-there : (t first : ℕ) → first < 256 → poolBy t first < 14
@@ -123,7 +122,7 @@ module _ (first second : ℕ) (byte : first < 256) (l : List ℕ) (counts : Coun
   module _ {d₁ : List ℕ} (r₁ : d₁ ≡ raised (oneMore q₁ a₁) l) {q₂ a₂ : ℕ} (e₂ : q₂ ≡ pushPool second) (b₂ : a₂ ≡ pushes (first % 16)) where
     pub add-push : ((length d₁ ≡ 14) × (q₂ < 14)) × (getD d₁ q₂ 0 + a₂ < 2 ^ 32)
     add-push =
-        let few₂ : a₂ ≤ 1 = rw b₂ (pushes-most (first % 16)) in
+        let few₂ : a₂ ≤ 1 = rw b₂ (one-most (leb 8 (first % 16) && ltb (first % 16) 10)) in
         one-fits q₂ a₂ (counts-one q₁ a₁ 2 counts few r₁) (rw e₂ (push-there second)) (omega (arith, few₂))
 
     pub add-both : {d₂ : List ℕ} → d₂ ≡ raised (oneMore q₂ a₂) d₁ → d₂ ≡ raised (taken (chargesBy (first % 16) first second)) l

@@ -112,15 +112,31 @@ fn choose_pool(msgtype: u8, byte0: u8) -> u8
     }
 }
 
-// The credits that a message pays of that pool: two for a Resp2, one for any other that pays.
-fn count_credits(msgtype: u8) -> u32
-    ensures { λ r. ⌜ r ≡ pick (eqb msgtype 4) 2 (pick (leb 1 msgtype && ltb msgtype 10) 1 0) ⌝ }
+// The first credit that a message pays of that pool.
+fn count_first(msgtype: u8) -> u32
+    ensures { λ r. ⌜ r ≡ pick (leb 1 msgtype && ltb msgtype 10) 1 0 ⌝ }
 {
     match msgtype {
-        RESP2 => 2,
         REQ_S..=WR_REQ_DATA_L => 1,
         0 | 10..=255 => 0,
     }
+}
+
+// The second credit that a Resp2 pays of that pool.
+fn count_second(msgtype: u8) -> u32
+    ensures { λ r. ⌜ r ≡ pick (eqb msgtype 4) 1 0 ⌝ }
+{
+    match msgtype {
+        RESP2 => 1,
+        0..=255 => 0,
+    }
+}
+
+// The credits that a message pays of that pool.
+fn count_credits(msgtype: u8) -> u32
+    ensures { λ r. ⌜ r ≡ pick (leb 1 msgtype && ltb msgtype 10) 1 0 + pick (eqb msgtype 4) 1 0 ⌝ }
+{
+    count_first(msgtype) + count_second(msgtype)
 }
 
 // The credits that a message pays for push data.

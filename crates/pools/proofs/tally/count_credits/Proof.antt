@@ -1,27 +1,28 @@
 -- `pools::tally::count_credits` meets its contract.
 use Prim.Native.Nat.{_≤_}
+use mathlib.Core.Bool.{_&&_}
 use native.Mathlib.Omega.{arith}
-use borrow.Author.Tests.{ne-eqb, le-leb, lt-ltb, le-ltb}
+use lib.Dec.{eqb, ltb, leb}
+use borrow.Author.Needs.{needs}
+use Rattle.pools.proofs.TypeLaws.{one-most}
 use Rattle.pools.proofs.tally.count_credits.Statement.{statement}
 use Rattle.pools.proofs.tally.count_credits.Tie as tie
 
+count-first-requires : tie.Need-count-first-requires
+count-first-requires c κs = search needs
+
+count-second-requires : tie.Need-count-second-requires
+count-second-requires c κs = search needs
+
+add-result : tie.Need-add-result
+add-result c =
+    let t = c .before .before .args .msgtype in
+    let first : c .before .count-first .result ≤ 1 = rw (c .before .count-first .ensures) (one-most (leb 1 t && ltb t 10)) in
+    let second : c .count-second .result ≤ 1 = rw (c .count-second .ensures) (one-most (eqb t 4)) in
+    omega arith
+
 returns : tie.Need-returns
-returns c = rw (c .match .keys1)
-
-returns-2 : tie.Need-returns-2
-returns-2 c =
-    let rest = c .before .match .rest in
-    let least : 1 ≤ c .before .before .args .msgtype = omega (arith, rest .1) in
-    rw (ne-eqb _ _ (rest .0 .1), le-leb _ _ least, lt-ltb _ _ (c .if1 .taken))
-
-returns-3 : tie.Need-returns-3
-returns-3 c = rw (c .match .keys2)
-
-returns-4 : tie.Need-returns-4
-returns-4 c =
-    let rest = c .before .match .rest in
-    let least : 1 ≤ c .before .before .args .msgtype = omega (arith, c .if1 .left) in
-    rw (ne-eqb _ _ (rest .0 .1), le-leb _ _ least, le-ltb _ _ (c .if1 .left))
+returns c = search needs
 
 pub count-credits-spec : {M : Type 1} → statement M
-count-credits-spec = tie.close (tie.spec returns returns-2 returns-3 returns-4)
+count-credits-spec = tie.close (tie.spec count-first-requires count-second-requires add-result returns)
