@@ -32,7 +32,7 @@ receiverFor a b direction1 = b
 abbrev pub ruleChecks : Receiver → Receiver → Reader → List ℕ → List Check
 ruleChecks own other s c = checksThen own other s c []
 
--- the link of a format and two receivers
+-- the link of a format and two receivers; what messages pay is added up, so that of pool 9 responses are counted (document 02, K3)
 abbrev pub linkOf : ℕ → Receiver → Receiver → Link
 linkOf f a b = record {
   Container = List ℕ;

@@ -18,11 +18,11 @@ module _ (K : Link) where
   abbrev pub granted : Direction → ℕ → Trace (Entry Container) → ℕ
   granted d p t = total K grants (opposite d) (containersOf (opposite d) t) p
 
-  -- the messages that start in the entries and pay pool p of direction d
+  -- the messages that start in the entries and pay pool p of direction d, of pool 9 the responses
   abbrev pub begun : Direction → ℕ → Trace (Entry Container) → ℕ
   begun d p t = total K begins d (containersOf d t) p
 
-  -- the messages that end in the entries and pay pool p of direction d
+  -- the messages that end in the entries and pay pool p of direction d, of pool 9 the responses
   abbrev pub finished : Direction → ℕ → Trace (Entry Container) → ℕ
   finished d p t = total K finishes d (containersOf d t) p
 

@@ -1,4 +1,5 @@
--- Demand 3 as one claim about a list of audit calls; it is proved of every list, so of every one of at most 16,777,215 calls.
+-- Demand 3 as one claim about a list of audit calls; it is proved of every list, so of every one of at most 16,777,215 calls. It "reads
+-- 'responses' for 'messages' in pool 9" (document 02, K3).
 use Prim.Native.Nat.{ℕ, _+_}
 use mathlib.Core.Path.{_≡_}
 use Rattle.history.specs.Trace.{Trace, _⊑_}

@@ -1,4 +1,5 @@
--- Histories of a link: the history paragraph of document 01, "Pools and the audit", each definition below the words that it states.
+-- Histories of a link: the history paragraph of document 01, "Pools and the audit", each definition below the words that it states. Of pool 9
+-- "responses" is read for "messages" (document 02, K3): a Resp2 is two in flight and two buffered, each freed by an event of its own.
 use Prim.Native.Nat.{ℕ, _+_, _-_, _≤_}
 use mathlib.Core.Path.{_≡_}
 use mathlib.Core.Bool.{true, _&&_}

@@ -44,11 +44,11 @@ pub record Link : Type 1 where
   pub next : Direction → State → Container → State
   -- the credits that a container grants to each pool of the opposite direction, its header and its messages together
   pub grants : Direction → State → Container → ℕ → ℕ
-  -- the messages that start in a container, by the pools that they pay
+  -- the messages that start in a container, in each pool with the credits that they pay: of pool 9 responses (document 02, K3)
   pub begins : Direction → State → Container → ℕ → ℕ
-  -- the messages that end in a container, by the pools that they pay
+  -- the messages that end in a container, likewise
   pub finishes : Direction → State → Container → ℕ → ℕ
-  -- the messages that have started and not ended, by the pools that they pay
+  -- the messages that have started and not ended, likewise
   pub carried : State → ℕ → ℕ
   -- whether a state is a valid one of this direction's reader
   pub stateOk : Direction → State → Bool

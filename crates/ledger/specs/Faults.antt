@@ -42,7 +42,7 @@ pub data AuditFault (s : Ledger) (d : ℕ) (c : List ℕ) : ℕ → ℕ → Type
   message : {g : ℕ} → MessageLacksPool s d c g → AuditFault s d c 14 g
   -- 21 | of a grant: missing pool | granule of the CrdtGrant, 12 for the header
   grant : {p : ℕ} → GrantLacksPool s d c p → AuditFault s d c 21 p
-  -- 15 | begun over granted | pool: more messages start than there are credits of granted minus begun
+  -- 15 | begun over granted | pool: what starts pays more credits than there are of granted minus begun
   over : (p : ℕ) → p < 14 → heldOf s d p < paidTo p (begun s d c) → AuditFault s d c 15 p
   -- 16 | granted over capacity + finished | pool
   full : (p : ℕ) → p < 14 → capacityOf (receiverOf s (opposite d)) p < heldOf s (opposite d) p + (grantedTo p (granted s d c) + openOf s (opposite d) p)

@@ -1,9 +1,10 @@
-//! Document 01's examples, M1 to M10 and those that are run only, records beneath longer messages, missing pools, and asks of the feeder.
+//! Document 01's examples, M1 to M10 and those that are run only, what a Resp2 pays, records beneath longer messages, missing pools, and asks
+//! of the feeder.
 
 use crate::cause::{refusal, Refusal};
 use crate::feeder::{ask, feed, Feed, Refused, Waiting};
 use crate::layout::{granule_start, Format, Grant, Header, Part, CONTAINER, GRANULES, GROUP};
-use crate::ledger::{Ledger, Receiver, POOLS, SHARED_DAT};
+use crate::ledger::{Ledger, Receiver, POOLS, RSP, SHARED_DAT};
 use crate::list::{read_number, write_list, write_number};
 use crate::log::verdict;
 use crate::message::{Kind, KINDS};
@@ -184,6 +185,20 @@ fn m10_slot_returns_at_the_end() {
     let ended = begun.audit(1, &ends).unwrap();
     assert_eq!(ended.open(1, SHARED_DAT), 0);
     assert!(ended.audit(0, &granting(1)).is_ok());
+}
+
+#[test]
+fn resp2_pays_two() {
+    let granting_rsp = |rsp| container(Format::X, &[], Grant { rsp, ..Grant::default() });
+    let [resp, resp2] = [Kind::Resp, Kind::Resp2].map(|kind| of_kinds(Format::X, &[(0, kind)]));
+    let fresh = ledger(RSP, 2);
+    assert_eq!(fresh.audit(0, &granting_rsp(1)).unwrap().audit(1, &resp2), Err(refusal(15, RSP)));
+    let granted = fresh.audit(0, &granting_rsp(2)).unwrap();
+    let paid = granted.audit(1, &resp2).unwrap();
+    assert_eq!((paid.begun[1][RSP], paid.finished[1][RSP]), (2, 2));
+    assert_eq!(paid.audit(1, &resp), Err(refusal(15, RSP)));
+    assert!(paid.audit(0, &granting_rsp(2)).is_ok());
+    assert_eq!(granted.audit(1, &resp).unwrap().audit(0, &granting_rsp(2)), Err(refusal(16, RSP)));
 }
 
 #[test]
