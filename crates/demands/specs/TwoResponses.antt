@@ -21,25 +21,25 @@ abbrev pub resp2 : List ℕ
 resp2 = withBytes ((126, 1) ∷ (0, 4) ∷ [])
 
 -- n credits of direction 0 have left in direction 1, and have arrived
-abbrev pub granted : ℕ → Trace (Event (List ℕ))
-granted n = start ▷ leaves direction1 (granting n)
+abbrev pub grantLeft : ℕ → Trace (Event (List ℕ))
+grantLeft n = start ▷ leaves direction1 (granting n)
 
-abbrev pub received : ℕ → Trace (Event (List ℕ))
-received n = granted n ▷ passes direction1 (granting n) ▷ arrives direction1 (granting n)
+abbrev pub grantArrived : ℕ → Trace (Event (List ℕ))
+grantArrived n = grantLeft n ▷ passes direction1 (granting n) ▷ arrives direction1 (granting n)
 
 -- the Resp2 has left on two credits, and has arrived
-abbrev pub sent : Trace (Event (List ℕ))
-sent = received 2 ▷ leaves direction0 resp2
+abbrev pub resp2Left : Trace (Event (List ℕ))
+resp2Left = grantArrived 2 ▷ leaves direction0 resp2
 
-abbrev pub arrived : Trace (Event (List ℕ))
-arrived = sent ▷ passes direction0 resp2 ▷ arrives direction0 resp2
+abbrev pub resp2Arrived : Trace (Event (List ℕ))
+resp2Arrived = resp2Left ▷ passes direction0 resp2 ▷ arrives direction0 resp2
 
--- one of its slots is freed, and the other
-abbrev pub freedOne : Trace (Event (List ℕ))
-freedOne = arrived ▷ frees direction0 9
+-- one of its slots is freed, and then the other
+abbrev pub oneFreed : Trace (Event (List ℕ))
+oneFreed = resp2Arrived ▷ frees direction0 9
 
-abbrev pub freedBoth : Trace (Event (List ℕ))
-freedBoth = freedOne ▷ frees direction0 9
+abbrev pub bothFreed : Trace (Event (List ℕ))
+bothFreed = oneFreed ▷ frees direction0 9
 
 -- the five of demand 3, of direction 0 and pool 9: ungranted, returning, held, in flight, buffered
 abbrev pub five : Trace (Event (List ℕ)) → List ℕ
@@ -53,22 +53,22 @@ five h =
 
 pub record TwoResponses : Type 0 where
   -- two rule-keeping ends do this
-  pub history : History link freedBoth
-  -- the credits
+  pub history : History link bothFreed
+  -- two credits are granted and held
   pub at-start : five start ≡ 2 ∷ 0 ∷ 0 ∷ 0 ∷ 0 ∷ []
-  pub credits-return : five (granted 2) ≡ 0 ∷ 2 ∷ 0 ∷ 0 ∷ 0 ∷ []
-  pub credits-held : five (received 2) ≡ 0 ∷ 0 ∷ 2 ∷ 0 ∷ 0 ∷ []
+  pub two-returning : five (grantLeft 2) ≡ 0 ∷ 2 ∷ 0 ∷ 0 ∷ 0 ∷ []
+  pub two-held : five (grantArrived 2) ≡ 0 ∷ 0 ∷ 2 ∷ 0 ∷ 0 ∷ []
   -- "Resp2 pays two RSP credits, opens two"
-  pub two-in-flight : five sent ≡ 0 ∷ 0 ∷ 0 ∷ 2 ∷ 0 ∷ []
+  pub two-in-flight : five resp2Left ≡ 0 ∷ 0 ∷ 0 ∷ 2 ∷ 0 ∷ []
   -- "and finishes two"
-  pub two-buffered : five arrived ≡ 0 ∷ 0 ∷ 0 ∷ 0 ∷ 2 ∷ []
+  pub two-buffered : five resp2Arrived ≡ 0 ∷ 0 ∷ 0 ∷ 0 ∷ 2 ∷ []
   -- a slot comes back by an event, the other by one more, and then there is none to free
-  pub one-free : five freedOne ≡ 1 ∷ 0 ∷ 0 ∷ 0 ∷ 1 ∷ []
-  pub both-free : five freedBoth ≡ 2 ∷ 0 ∷ 0 ∷ 0 ∷ 0 ∷ []
-  pub none-left : Enabled link freedBoth (frees direction0 9) → ⊥
-  -- two credits are granted anew when both slots are free, and not before
-  pub not-before : Enabled link freedOne (leaves direction1 (granting 2)) → ⊥
-  pub anew : Enabled link freedBoth (leaves direction1 (granting 2))
+  pub one-back : five oneFreed ≡ 1 ∷ 0 ∷ 0 ∷ 0 ∷ 1 ∷ []
+  pub both-back : five bothFreed ≡ 2 ∷ 0 ∷ 0 ∷ 0 ∷ 0 ∷ []
+  pub none-left : Enabled link bothFreed (frees direction0 9) → ⊥
+  -- two credits are granted anew when both slots are back, and not before
+  pub not-before : Enabled link oneFreed (leaves direction1 (granting 2)) → ⊥
+  pub anew : Enabled link bothFreed (leaves direction1 (granting 2))
   -- no Resp2 leaves where one credit is held: "when both aren't there"
-  pub one-held : five (received 1) ≡ 1 ∷ 0 ∷ 1 ∷ 0 ∷ 0 ∷ []
-  pub not-on-one : Enabled link (received 1) (leaves direction0 resp2) → ⊥
+  pub one-held : five (grantArrived 1) ≡ 1 ∷ 0 ∷ 1 ∷ 0 ∷ 0 ∷ []
+  pub not-on-one : Enabled link (grantArrived 1) (leaves direction0 resp2) → ⊥

@@ -23,7 +23,8 @@ use Rattle.pools.specs.declared.receiver.Receiver.{Receiver}
 use Rattle.ledger.specs.declared.ledger.Ledger.{Ledger}
 use Rattle.ledger.proofs.ValidLaws.{direction-valid, valid-direction}
 use Rattle.pools.proofs.PoolRuleLaws.{receiver-exactly}
-use Rattle.pools.proofs.PaymentRuleLaws.{pays-exactly, payment-exactly}
+use Rattle.pools.proofs.PaymentRuleLaws.{pays-exactly}
+use Rattle.pools.proofs.PayableLaws.{payment-exactly}
 
 pub configured-exactly : (f : ℕ) (a b : Receiver) → (configured f a b ≡ true) ↔ ValidConfiguration f a b
 configured-exactly f a b = (

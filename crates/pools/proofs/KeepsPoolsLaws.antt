@@ -24,7 +24,7 @@ use Rattle.pools.specs.PoolRules.{PaysRight, GrantsRight, KeepsPools, gr
 use Rattle.pools.specs.declared.receiver.Receiver.{Receiver}
 use Rattle.pools.proofs.GranuleLaws.{granule-checks}
 use Rattle.pools.proofs.GrantRuleLaws.{grant-exactly}
-use Rattle.pools.proofs.PaymentRuleLaws.{payment-exactly}
+use Rattle.pools.proofs.PayableLaws.{payment-exactly}
 
 module _ (own other : Receiver) (fm : Format) (m c : List ℕ) (eight : (g : ℕ) → g < 12 → Starts fm c g → byte (granule fm g c) 0 < 256) where
   abbrev cell : ℕ → Cell

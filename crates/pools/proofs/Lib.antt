@@ -7,6 +7,7 @@ pub mod TallyLaws
 pub mod TypeLaws
 pub mod PoolRuleLaws
 pub mod PaymentRuleLaws
+pub mod PayableLaws
 pub mod GrantRuleLaws
 pub mod BegunLaws
 pub mod GrantedLaws
