@@ -1,29 +1,36 @@
--- The link reads exactly the containers that keep the rules in the papers' words, and counts the messages that start in them. Assumes
--- nothing.
-use Prim.Native.Nat.{ℕ, zero, suc, _+_}
+-- The link reads exactly the containers that keep the rules in the papers' words, counts the messages that start in them, and carries no
+-- response. Assumes nothing.
+use Prim.Native.Nat.{ℕ, zero, suc, _+_, _<_}
 use mathlib.Core.Path.{_≡_, sym, ap, _∙_}
-use mathlib.Core.Bool.{Bool, true, _&&_}
+use mathlib.Core.Bool.{Bool, true, false, _&&_}
 use mathlib.Core.List.{List, [], _∷_, _++_, append-assoc, append-nil}
-use mathlib.Core.Logic.{_↔_}
+use mathlib.Core.Logic.{_⊎_, ⊎-elim, _↔_}
 use native.Mathlib.Numerals.{add-one}
 use native.Mathlib.Omega.{arith}
 use lib.ListN.{length}
 use lib.Dec.{eqb}
+use borrow.Author.Tests.{eqb-true}
 use Rattle.lists.specs.Pick.{pick}
+use Rattle.lists.proofs.Tests.{cases}
 use Rattle.cause.specs.Checks.{Pass, firstFault, passes}
 use Rattle.container.specs.Layout.{Format, formatOf, granule}
 use Rattle.container.specs.Grants.{headerGrant}
 use Rattle.container.proofs.Formats.{lawful-of}
+use Rattle.message.specs.Heads.{sizeBy}
+use Rattle.message.specs.Places.{responsesBy}
+use Rattle.message.specs.Charges.{charges}
+use Rattle.message.specs.HeadRules.{byte, type}
 use Rattle.message.proofs.ChargeLaws.{responses-pay}
+use Rattle.message.proofs.HeadRuleLaws.{row-size}
 use Rattle.placement.specs.Cells.{cellAt, after, cells, startings}
 use Rattle.reader.specs.Reading.{carried, stateChecks}
 use Rattle.placement.specs.Rules.{Rules, startBit}
-use Rattle.reader.specs.ValidState.{ValidState}
+use Rattle.reader.specs.ValidState.{ValidState, Part}
 use Rattle.reader.specs.declared.reader.Reader.{Reader}
 use Rattle.placement.proofs.KeepsLaws.{passes-keeps, keeps-passes}
 use Rattle.placement.proofs.RulesLaws.{rules-exactly}
 use Rattle.reader.proofs.ReadRules.{carry-exactly}
-use Rattle.pools.specs.Pools.{messageChecks, grantChecks}
+use Rattle.pools.specs.Pools.{messageChecks, grantChecks, chargedTo}
 use Rattle.pools.specs.PoolRules.{KeepsPools}
 use Rattle.pools.specs.declared.receiver.Receiver.{Receiver}
 use Rattle.pools.proofs.PaymentRuleLaws.{pays-exactly, responses-counted}
@@ -84,6 +91,26 @@ module _ (own other : Receiver) (s : Reader) (c : List ℕ) (valid : ValidState 
     λ r. let p = pools-rules (r .rules) .1 (r .pools) in by-reads own other s c (record { long = r .size; state = state-rules (r .size) .1 (r .rules); messages = p .0; grants = p .1 }),
   )
 
+-- ---- responses
+-- a message longer than a granule is none
+no-response : (t o : ℕ) → 20 < sizeBy t o → responsesBy t ≡ 0
+no-response t o h = ⊎-elim single (λ (e : eqb t 3 ≡ false). ⊎-elim double (λ (f : eqb t 4 ≡ false). rw (e, f)) (cases (eqb t 4))) (cases (eqb t 3))
+  where
+    single : eqb t 3 ≡ true → responsesBy t ≡ 0
+    single e = let z : 20 < 10 = rw (eqb-true t 3 e) at h in absurd (omega arith)
+
+    double : eqb t 4 ≡ true → responsesBy t ≡ 0
+    double e = let z : 20 < 20 = rw (eqb-true t 4 e) at h in absurd (omega arith)
+
+none-carried : (m : List ℕ) → (m ≡ []) ⊎ Part m → chargedTo 9 (charges m) ≡ 0
+none-carried m v =
+    ⊎-elim (λ (e : m ≡ []). rw e)
+    (λ (p : Part m).
+    let e = row-size (p .sized) in
+    let some = p .some in
+    let more = p .notAll in
+    responses-counted m (p .headed .eight) ∙ no-response (type m) (byte m 1) (omega arith)) v
+
 pub link-rules : LinkRules
 link-rules = record {
   reads-exactly = λ f a b d s c valid. test-exactly (receiverFor a b d) (receiverFor a b (opposite d)) s c valid;
@@ -91,5 +118,6 @@ link-rules = record {
   pays-exactly = pays-exactly;
   responses-pay = responses-pay;
   responses-counted = responses-counted;
+  responses-whole = λ s v. none-carried (carried s) (v .carry);
   gives-exactly = gives-exactly;
 }

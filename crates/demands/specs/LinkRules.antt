@@ -48,6 +48,8 @@ pub record LinkRules : Type 0 where
   -- "Demand 3 reads "responses" for "messages" in pool 9" (document 02, K3): a message is counted there as often as it counts among the
   -- responses of its group
   pub responses-counted : (m : List ℕ) → byte m 0 < 256 → chargedTo 9 (charges m) ≡ responseCount m
+  -- a response lies in one granule and is never carried, so that it is begun and finished by one entry
+  pub responses-whole : (s : Reader) → ValidState s → chargedTo 9 (charges (carried s)) ≡ 0
   -- a grant is counted in a pool with the count that it gives, and with nothing where it gives none
   pub gives-exactly : (n : Grant) → n .rp ≤ 7 → (p : ℕ) → p < 14
       → ((k : ℕ) → Gives n p k → grantedBy p n ≡ k) × (((k : ℕ) → Gives n p k → ⊥) → grantedBy p n ≡ 0)
