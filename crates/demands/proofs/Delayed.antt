@@ -5,7 +5,9 @@ use mathlib.Core.Bool.{true}
 use mathlib.Core.List.{[]}
 use native.Mathlib.Omega.{arith}
 use lib.Dec.{eqb}
+use Rattle.lists.specs.Pick.{pick}
 use Rattle.lists.proofs.PickLaws.{pick-both}
+use Rattle.container.specs.Grants.{grantOf}
 use Rattle.placement.specs.Cells.{cells, carryAfter, startings}
 use Rattle.placement.specs.Checking.{granuleChecks, groupChecks, containerChecks}
 use Rattle.reader.specs.Reading.{readerWith, stateChecks, nextReader}
@@ -19,11 +21,15 @@ use Rattle.history.proofs.DelayLaws.{delays}
 use Rattle.demands.specs.Marked.{noGrant}
 use Rattle.demands.specs.Delayed.{link, idle, one, two, three, Delayed}
 
+-- a grant of n RSP credits alone gives them to pool 9, and nothing to any other pool
+pub responses-given : (n p : ℕ) → grantedBy p (grantOf 0 0 n 0 0) ≡ pick (eqb p 9) n 0
+responses-given n p =
+    ap (λ (k : ℕ). pick (eqb p 9) n k)
+    (pick-both (λ (k : ℕ). k ≡ 0) (eqb p 10) refl (pick-both (λ (k : ℕ). k ≡ 0) (eqb p 1) refl (pick-both (λ (k : ℕ). k ≡ 0) (eqb p 12) refl refl)))
+
 -- a grant of nothing gives nothing to any pool
 nothing-given : (p : ℕ) → grantedBy p noGrant ≡ 0
-nothing-given p =
-    pick-both (λ (n : ℕ). n ≡ 0) (eqb p 9) refl (pick-both (λ (n : ℕ). n ≡ 0) (eqb p 10) refl
-    (pick-both (λ (n : ℕ). n ≡ 0) (eqb p 1) refl (pick-both (λ (n : ℕ). n ≡ 0) (eqb p 12) refl refl)))
+nothing-given p = responses-given 0 p ∙ pick-both (λ (k : ℕ). k ≡ 0) (eqb p 9) refl refl
 
 -- what an idle container leaves, gives and begins
 idle-reads : (d : Direction) → link .reads d (readerWith 0 []) idle ≡ true

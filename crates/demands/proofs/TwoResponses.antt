@@ -1,6 +1,6 @@
 -- A Resp2 in a history, by computation. Assumes nothing.
 use Prim.Native.Nat.{ℕ, _≤_}
-use mathlib.Core.Path.{_≡_, refl, sym}
+use mathlib.Core.Path.{_≡_, refl, sym, _∙_}
 use mathlib.Core.Bool.{true, false}
 use mathlib.Core.List.{[]}
 use mathlib.Core.Logic.{⊎-elim}
@@ -8,7 +8,6 @@ use native.Mathlib.Omega.{arith}
 use lib.Dec.{eqb}
 use borrow.Author.Tests.{eqb-true, eqb-false, ne-eqb}
 use Rattle.lists.proofs.Tests.{cases}
-use Rattle.lists.proofs.PickLaws.{pick-both}
 use Rattle.container.specs.Grants.{grantOf}
 use Rattle.placement.specs.Cells.{cells, carryAfter, endings, startings}
 use Rattle.placement.specs.Checking.{granuleChecks, groupChecks, containerChecks}
@@ -17,7 +16,9 @@ use Rattle.pools.specs.Pools.{eachGranule, paidTo, grantedTo, grantedBy, grants
 use Rattle.history.specs.Trace.{start, whole}
 use Rattle.history.specs.Link.{direction0, direction1}
 use Rattle.history.specs.History.{leaves, frees, ungranted, returning, heldAtSender, inFlight, buffered, Enabled}
-use Rattle.demands.specs.TwoResponses.{link, granting, resp2, grantArrived, resp2Arrived, oneFreed, bothFreed, TwoResponses}
+use Rattle.demands.specs.Delayed.{link}
+use Rattle.demands.specs.TwoResponses.{granting, resp2, grantArrived, resp2Arrived, oneFreed, bothFreed, TwoResponses}
+use Rattle.demands.proofs.Delayed.{responses-given}
 
 -- numbers of pools that are zero but for pool 9
 abbrev Only9 : (ℕ → ℕ) → Type 0
@@ -30,9 +31,7 @@ most-at-9 f g none h p =
     (λ (t : eqb p 9 ≡ false). let z = none p (eqb-false p 9 t) in omega arith) (cases (eqb p 9))
 
 given-at-9 : (n : ℕ) → Only9 (λ p. grantedBy p (grantOf 0 0 n 0 0))
-given-at-9 n p d =
-    rw (ne-eqb p 9 d)
-    (pick-both (λ (x : ℕ). x ≡ 0) (eqb p 10) refl (pick-both (λ (x : ℕ). x ≡ 0) (eqb p 1) refl (pick-both (λ (x : ℕ). x ≡ 0) (eqb p 12) refl refl)))
+given-at-9 n p d = responses-given n p ∙ rw (ne-eqb p 9 d)
 
 -- the grant gives to pool 9 alone
 grant-gives : Only9 (link .grants direction1 (readerWith 0 []) (granting 2))

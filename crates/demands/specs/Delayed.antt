@@ -8,7 +8,7 @@ use Rattle.history.specs.Delays.{UnderWay}
 use Rattle.demands.specs.Tap.{linkOf}
 use Rattle.demands.specs.Marked.{withBytes, receiverWith}
 
--- a link in format X, and an idle container
+-- a link in format X whose receivers have two buffers of pools 9 and 11, and an idle container
 abbrev pub link : Link
 link = linkOf 0 (receiverWith 2) (receiverWith 2)
 

@@ -39,7 +39,7 @@ audited n push = auditedBetween (bare n push) (bare n push)
 abbrev pub answered : List (Call (List ℕ)) → List (ℕ × ℕ)
 answered = answersTo (freshLedger 0 (receiverWith 2) (receiverWith 2))
 
--- a message of type t in G0
+-- a response of type t in G0: 3 is a Resp, 4 a Resp2
 abbrev pub response : ℕ → List (ℕ × ℕ)
 response t = (126, 1) ∷ (0, t) ∷ []
 
