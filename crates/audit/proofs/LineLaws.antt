@@ -3,8 +3,8 @@ use Prim.Native.Nat.{◌≤◌}
 use lib.ListN.{length}
 use Rattle.cause.specs.declared.Verdict.TheVariants as verdict
 use Rattle.text.proofs.WriteLaws.{verdict_most}
-use Rattle.log.specs.declared.log.LogVerdict.{LogVerdict}
-use Rattle.log.specs.declared.log.LogVerdict.TheVariants.{Accepted, Refused}
+use Rattle.logs.specs.declared.log.LogVerdict.{LogVerdict}
+use Rattle.logs.specs.declared.log.LogVerdict.TheVariants.{Accepted, Refused}
 use Rattle.audit.specs.Turns.{log_line}
 
 pub line_most : (v : LogVerdict) → length (log_line v) ≤ 64

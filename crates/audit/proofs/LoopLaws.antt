@@ -8,10 +8,10 @@ use native.Mathlib.Omega.{arith}
 use lib.ListN.{length, take, length-take}
 use Rattle.lists.specs.Parts.{part}
 use Rattle.lists.proofs.PartLaws.{length_part}
-use Rattle.log.specs.Stream.{fresh_reader}
-use Rattle.log.specs.declared.log.LogReader.{LogReader}
-use Rattle.log.specs.declared.log.LogVerdict.{LogVerdict}
-use Rattle.log.proofs.CutTheorem.{consume_within}
+use Rattle.logs.specs.Stream.{fresh_reader}
+use Rattle.logs.specs.declared.log.LogReader.{LogReader}
+use Rattle.logs.specs.declared.log.LogVerdict.{LogVerdict}
+use Rattle.logs.proofs.CutTheorem.{consume_within}
 use Rattle.audit.specs.Turns.{Turned, Taken, Turns, none, more, Judged}
 use Rattle.audit.specs.declared.Progress.TheVariants.{On, Over, Failed}
 use Rattle.audit.specs.declared.Turn.{Turn}

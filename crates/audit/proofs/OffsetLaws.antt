@@ -10,14 +10,14 @@ use lib.Dec.{leb}
 use Rattle.lists.specs.Pick.{pick}
 use Rattle.lists.proofs.PickLaws.{pick_both}
 use Rattle.lists.proofs.Tests.{cases}
-use Rattle.log.specs.Log.{ConfigurationAnswer, misconfigures, configures, configuration_at, Next, over, onward}
-use Rattle.log.specs.Stream.{max_entries, ready, stepped, read_from, started, start_by, Running, consuming}
+use Rattle.logs.specs.Log.{ConfigurationAnswer, misconfigures, configures, configuration_at, Next, over, onward}
+use Rattle.logs.specs.Stream.{max_entries, ready, stepped, read_from, started, start_by, Running, consuming}
 use Rattle.ledger.specs.declared.ledger.Ledger.{Ledger}
-use Rattle.log.specs.declared.log.LogReader.{LogReader}
-use Rattle.log.specs.declared.log.Consumed.{Consumed}
-use Rattle.log.proofs.LogSteps.{next_at, read_stop, read_over, read_on_steps}
-use Rattle.log.proofs.LogCalls.{started_runs, call_bad, call_start, call_running}
-use Rattle.log.proofs.CutTheorem.{read_kept, State, bad, new, runs, state_of, all_left, full_stop}
+use Rattle.logs.specs.declared.log.LogReader.{LogReader}
+use Rattle.logs.specs.declared.log.Consumed.{Consumed}
+use Rattle.logs.proofs.LogSteps.{next_at, read_stop, read_over, read_on_steps}
+use Rattle.logs.proofs.LogCalls.{started_runs, call_bad, call_start, call_running}
+use Rattle.logs.proofs.CutTheorem.{read_kept, State, bad, new, runs, state_of, all_left, full_stop}
 
 -- the bytes of the longest log
 abbrev pub most_bytes : ℕ

@@ -10,14 +10,14 @@ use lib.Seq.{drop-append-le, take_at}
 use lib.Dec.{eqb}
 use borrow.Author.Tests.{eqb-true, eqb-false, ne_eqb, eq-eqb}
 use Rattle.lists.proofs.Tests.{cases}
-use Rattle.log.specs.Log.{log_verdict}
-use Rattle.log.specs.Stream.{max_entries, consuming, verdict_from}
-use Rattle.log.specs.Cutting.{told}
-use Rattle.log.specs.declared.log.LogReader.{LogReader}
-use Rattle.log.specs.declared.log.LogVerdict.{LogVerdict}
-use Rattle.log.specs.declared.log.Outcome.{Outcome}
-use Rattle.log.specs.declared.log.Outcome.TheVariants as outcome
-use Rattle.log.proofs.CutTheorem.{consume_ended, consume_cut, consume_within, consume_short, fresh_verdict}
+use Rattle.logs.specs.Log.{log_verdict}
+use Rattle.logs.specs.Stream.{max_entries, consuming, verdict_from}
+use Rattle.logs.specs.Cutting.{told}
+use Rattle.logs.specs.declared.log.LogReader.{LogReader}
+use Rattle.logs.specs.declared.log.LogVerdict.{LogVerdict}
+use Rattle.logs.specs.declared.log.Outcome.{Outcome}
+use Rattle.logs.specs.declared.log.Outcome.TheVariants as outcome
+use Rattle.logs.proofs.CutTheorem.{consume_ended, consume_cut, consume_within, consume_short, fresh_verdict}
 use Rattle.audit.specs.Turns.{progress_by, turn_by, left_by, Turned, Turns, none, more, Judged}
 use Rattle.audit.specs.declared.Progress.TheVariants.{On, Over}
 use Rattle.audit.specs.declared.Turn.{Turn}

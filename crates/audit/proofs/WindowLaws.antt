@@ -10,8 +10,8 @@ use lib.Dec.{eqb}
 use borrow.Author.Tests.{ne_eqb}
 use Rattle.input.specs.Refills.{Refilled}
 use Rattle.input.specs.declared.Refill.TheVariants.{Got, End}
-use Rattle.log.specs.Stream.{consuming}
-use Rattle.log.specs.declared.log.LogReader.{LogReader}
+use Rattle.logs.specs.Stream.{consuming}
+use Rattle.logs.specs.declared.log.LogReader.{LogReader}
 use Rattle.audit.specs.Turns.{turn_by, Turned}
 use Rattle.audit.specs.declared.Turn.{Turn}
 

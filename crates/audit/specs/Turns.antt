@@ -3,13 +3,13 @@ use Rattle.std.specs.Prelude.{ℕ, ◌-◌, ◌<◌, ◌≡◌, List, [], ◌++�
 use Rattle.lists.specs.Parts.{part}
 use Rattle.cause.specs.declared.Verdict.TheVariants as verdict
 use Rattle.text.specs.Lines.{verdict_line}
-use Rattle.log.specs.Stream.{consuming, fresh_reader}
-use Rattle.log.specs.declared.log.LogReader.{LogReader}
-use Rattle.log.specs.declared.log.LogVerdict.{LogVerdict}
-use Rattle.log.specs.declared.log.LogVerdict.TheVariants.{Accepted, Refused}
-use Rattle.log.specs.declared.log.Consumed.{Consumed}
-use Rattle.log.specs.declared.log.Outcome.{Outcome}
-use Rattle.log.specs.declared.log.Outcome.TheVariants as outcome
+use Rattle.logs.specs.Stream.{consuming, fresh_reader}
+use Rattle.logs.specs.declared.log.LogReader.{LogReader}
+use Rattle.logs.specs.declared.log.LogVerdict.{LogVerdict}
+use Rattle.logs.specs.declared.log.LogVerdict.TheVariants.{Accepted, Refused}
+use Rattle.logs.specs.declared.log.Consumed.{Consumed}
+use Rattle.logs.specs.declared.log.Outcome.{Outcome}
+use Rattle.logs.specs.declared.log.Outcome.TheVariants as outcome
 use Rattle.audit.specs.declared.Progress.{Progress}
 use Rattle.audit.specs.declared.Progress.TheVariants.{On, Over, Failed}
 use Rattle.audit.specs.declared.Turn.{Turn}

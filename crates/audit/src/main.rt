@@ -1,14 +1,16 @@
 // Audits a log on standard input, in parts and in constant memory, and prints the verdict.
+#![tactic(auto)]
+
 ghost use Rattle.std.specs.Prelude.{◌≡◌, ◌-◌, ◌≤◌, ◌<◌, length};
 ghost use Rattle.lists.specs.Parts.{part};
-ghost use Rattle.log.specs.Stream.{consuming};
+ghost use Rattle.logs.specs.Stream.{consuming};
 ghost use Rattle.text.specs.Lines.{answer_of, room_of};
 ghost use Rattle.audit.specs.Turns.{progress_by, turn_by, Taken, Audited, log_line};
 
 use cause::Verdict;
 use input::{Refill, read_more};
 use libc::STDOUT_FILENO;
-use log::{LogReader, LogVerdict, Outcome};
+use logs::{LogReader, LogVerdict, Outcome};
 use text::write_verdict;
 
 // The room for a line.

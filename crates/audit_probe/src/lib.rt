@@ -1,4 +1,6 @@
 // The audit of entries, as a log frames them, from a fresh ledger, for tests and benchmarks written in C.
+#![tactic(auto)]
+
 ghost use Rattle.std.specs.Prelude.{◌≡◌, true, ◌≤◌, get_or};
 ghost use Rattle.ledger.specs.Audit.{ledger_ok};
 ghost use Rattle.ledger.specs.Run.{halted, run_over};

@@ -1,4 +1,6 @@
 // The causes of refusal and their numbers (document 01, "Causes and places"; of document 02, K11 retires 20 and K1 adds 21).
+#![tactic(auto)]
+
 ghost use Rattle.std.specs.Prelude.{◌≡◌};
 ghost use Rattle.cause.specs.Causes.{cause_number};
 

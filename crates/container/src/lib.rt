@@ -1,4 +1,6 @@
 // Container bytes: granules, protocol header and grant forms of both formats (document 01, "Container bytes").
+#![tactic(auto)]
+
 mod grant;
 mod idle;
 mod layout;

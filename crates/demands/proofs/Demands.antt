@@ -2,7 +2,7 @@
 use mathlib.Core.Path.{refl}
 use Rattle.reader.specs.Reading.{records}
 use Rattle.ledger.proofs.RunRuleLaws.{run_follows, run_only}
-use Rattle.log.proofs.LogRuleLaws.{consume_follows, consume_only}
+use Rattle.logs.proofs.LogRuleLaws.{consume_follows, consume_only}
 use Rattle.feeder.proofs.RuleLaws.{follows, only}
 use Rattle.history.proofs.DelayLaws.{delays}
 use Rattle.demands.specs.Tap.{link_of}

@@ -9,9 +9,9 @@ use Rattle.cause.specs.declared.Verdict.{Verdict}
 use Rattle.cause.specs.declared.Verdict.TheVariants.{Accepted, Refused}
 use Rattle.reader.specs.declared.reader.Reader.{Reader}
 use Rattle.ledger.specs.Audit.{receiver_of, reader_of, held_of, open_of, ledger_ok, configured, audit_checks, next_ledger, auditing, held_after, open_after, reported}
-use Rattle.log.specs.Log.{receiver_at, ledger_of}
+use Rattle.logs.specs.Log.{receiver_at, ledger_of}
 use Rattle.ledger.specs.Calls.{behind}
-use Rattle.log.specs.WholeLog.{AcceptedLog}
+use Rattle.logs.specs.WholeLog.{AcceptedLog}
 use Rattle.pools.specs.declared.receiver.Receiver.{Receiver}
 use Rattle.ledger.specs.declared.ledger.Ledger.{Ledger}
 use Rattle.ledger.proofs.FreshLaws.{fresh_valid}

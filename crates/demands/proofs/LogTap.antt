@@ -12,16 +12,16 @@ use Rattle.lists.proofs.Tests.{never_both}
 use Rattle.cause.specs.Checks.{passes}
 use Rattle.cause.specs.declared.Cause.{Cause}
 use Rattle.ledger.specs.Audit.{configured, auditing}
-use Rattle.log.specs.Log.{receiver_at}
+use Rattle.logs.specs.Log.{receiver_at}
 use Rattle.ledger.specs.Calls.{AllAccepted, behind, Enters, entry_of}
 use Rattle.ledger.specs.Calls as log
-use Rattle.log.specs.LogRules.{ConfigurationFault}
+use Rattle.logs.specs.LogRules.{ConfigurationFault}
 use Rattle.ledger.specs.Calls.Enters.{none, next}
-use Rattle.log.specs.WholeLog.{BegunLog, RefusedLog}
+use Rattle.logs.specs.WholeLog.{BegunLog, RefusedLog}
 use Rattle.pools.specs.declared.receiver.Receiver.{Receiver}
 use Rattle.ledger.specs.declared.ledger.Ledger.{Ledger}
 use Rattle.ledger.proofs.ValidLedgerLaws.{configured_exactly}
-use Rattle.log.proofs.WholeLogLaws.{accepted_only, begun_before, refused_only}
+use Rattle.logs.proofs.WholeLogLaws.{accepted_only, begun_before, refused_only}
 use Rattle.history.specs.Trace.{Trace, start, ◌▷◌, whole}
 use Rattle.history.specs.Link.{Direction, direction_of, Link}
 use Rattle.history.specs.History.{Entry, Tapped}

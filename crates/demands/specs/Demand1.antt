@@ -17,13 +17,13 @@ use Rattle.reader.specs.declared.reader.JudgeAnswer.TheVariants as judge
 use Rattle.ledger.specs.Audit.{held_of, open_of, new_ledger, auditing, reported}
 use Rattle.ledger.specs.Run.{run_over}
 use Rattle.ledger.specs.RunRules.{RunRule}
-use Rattle.log.specs.Stream.{consuming}
-use Rattle.log.specs.LogRules.{Consumes}
+use Rattle.logs.specs.Stream.{consuming}
+use Rattle.logs.specs.LogRules.{Consumes}
 use Rattle.pools.specs.declared.receiver.Receiver.{Receiver}
 use Rattle.ledger.specs.declared.ledger.Reported.TheVariants as report
 use Rattle.ledger.specs.declared.entries.Run.{Run}
-use Rattle.log.specs.declared.log.LogReader.{LogReader}
-use Rattle.log.specs.declared.log.Consumed.{Consumed}
+use Rattle.logs.specs.declared.log.LogReader.{LogReader}
+use Rattle.logs.specs.declared.log.Consumed.{Consumed}
 use Rattle.ledger.specs.declared.ledger.Ledger.{Ledger}
 use Rattle.writer.specs.Laying.{used_of}
 use Rattle.writer.specs.Filling.{tail_of, filling, fill_bytes}

@@ -2,10 +2,10 @@
 use Rattle.std.specs.Prelude.{ℕ, ◌≡◌, true, List, [], ◌∷◌}
 use Rattle.cause.specs.declared.Cause.TheVariants.{BegunOverGranted}
 use Rattle.ledger.specs.Audit.{configured, auditing, fresh_ledger, reported}
-use Rattle.log.specs.Log.{ledger_of}
+use Rattle.logs.specs.Log.{ledger_of}
 use Rattle.ledger.specs.Calls.{AllAccepted, behind}
 use Rattle.ledger.specs.Calls as log
-use Rattle.log.specs.WholeLog.{AcceptedLog}
+use Rattle.logs.specs.WholeLog.{AcceptedLog}
 use Rattle.pools.specs.declared.receiver.Receiver.{Receiver}
 use Rattle.ledger.specs.declared.ledger.Ledger.{Ledger}
 use Rattle.history.specs.Trace.{Trace, start}

@@ -1,12 +1,12 @@
 -- The entries of a log as a tap record (document 01: "The entries that a log hands to the audit are such a list").
 use Rattle.std.specs.Prelude.{ℕ, ◌≡◌, List, [], ◌∷◌, ◌⊎◌, get_or}
 use Rattle.cause.specs.declared.Cause.{Cause}
-use Rattle.log.specs.Log.{receiver_at, log_verdict}
-use Rattle.log.specs.Stream.{max_entries}
-use Rattle.log.specs.declared.log.LogVerdict.TheVariants as verdict
+use Rattle.logs.specs.Log.{receiver_at, log_verdict}
+use Rattle.logs.specs.Stream.{max_entries}
+use Rattle.logs.specs.declared.log.LogVerdict.TheVariants as verdict
 use Rattle.ledger.specs.Calls as log
-use Rattle.log.specs.LogRules.{ConfigurationFault}
-use Rattle.log.specs.WholeLog.{BegunLog, AcceptedLog, RefusedLog, Framing}
+use Rattle.logs.specs.LogRules.{ConfigurationFault}
+use Rattle.logs.specs.WholeLog.{BegunLog, AcceptedLog, RefusedLog, Framing}
 use Rattle.history.specs.Trace.{Trace, start}
 use Rattle.history.specs.Link.{Link, direction_of}
 use Rattle.history.specs.History.{Entry, Tapped}

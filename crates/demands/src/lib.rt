@@ -1,1 +1,2 @@
 // The demands as statements over the definitions; no code.
+#![tactic(auto)]

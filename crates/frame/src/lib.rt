@@ -1,5 +1,7 @@
 // The framing of a log's entry: its number, which is 2·ticks + direction, and the 256 bytes of its container (document 01, "The log and
 // the host"). No container is judged.
+#![tactic(auto)]
+
 ghost use Rattle.std.specs.Prelude.{◌≡◌};
 ghost use Rattle.frame.specs.Framing.{framing};
 

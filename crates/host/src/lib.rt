@@ -1,4 +1,6 @@
 // The entries for a host written in C (document 01, "The log and the host"): the check of one container, and the feeder (document 02, K9).
+#![tactic(auto)]
+
 mod check;
 mod feed;
 

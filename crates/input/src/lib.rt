@@ -1,4 +1,6 @@
 // Standard input, read through a window: the bytes that are kept, and behind them what one read gives.
+#![tactic(auto)]
+
 ghost use Rattle.std.specs.Prelude.{◌≡◌, ◌-◌, min, length};
 ghost use Rattle.lists.specs.Parts.{part};
 ghost use Rattle.input.specs.Refills.{answered, AtHand, Refilled};

@@ -1,1 +1,2 @@
 // Definitions and laws on lists; no code.
+#![tactic(auto)]

@@ -1,5 +1,7 @@
 // Message heads: what type and op select, which heads are right, where a message may start and what it pays (document 01,
 // "Message heads").
+#![tactic(auto)]
+
 mod charge;
 mod codes;
 mod heads;

@@ -1,5 +1,7 @@
 // Reads a format and a list of records from standard input, and writes the containers that carry its messages, with no grants; a
 // refused input gives one line instead.
+#![tactic(auto)]
+
 mod packing;
 
 ghost use Rattle.pack.specs.Inputs.{Loaded};

@@ -1,4 +1,6 @@
 // Receivers and pools: what messages pay and grants give, counted by pool (document 01, "Pools and the audit").
+#![tactic(auto)]
+
 mod begun;
 mod granted;
 mod kinds;

@@ -1,4 +1,6 @@
 // The judging and the filling of containers, and the part that the feeder hands out, for tests and benchmarks written in C.
+#![tactic(auto)]
+
 ghost use Rattle.std.specs.Prelude.{◌≡◌, length, get_or};
 ghost use Rattle.feeder.specs.Feeding.{fed_part};
 ghost use Rattle.probe.specs.Judge.{judge_code};

@@ -1,4 +1,6 @@
 // Reading containers: judged granule by granule, the finished messages written as records to lent room (document 01, "Placement").
+#![tactic(auto)]
+
 mod carry;
 mod cell;
 mod gather;

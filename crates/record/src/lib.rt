@@ -1,4 +1,6 @@
 // Numbers in seven-bit groups and lists of records (document 01, "The writer's one way").
+#![tactic(auto)]
+
 mod list;
 mod number;
 

@@ -1,4 +1,6 @@
 // Bytes of a slice: a byte, the test that all are zero, bytes moved to the front, a part copied and zeros written.
+#![tactic(auto)]
+
 mod bytes;
 mod copy;
 

@@ -1,4 +1,6 @@
 // The lines that programs print, written to lent room.
+#![tactic(auto)]
+
 mod messages;
 mod verdict;
 

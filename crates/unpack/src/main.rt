@@ -1,5 +1,7 @@
 // Reads a format and containers from standard input through a window, and prints each finished message as a line of hex and then
 // the verdict.
+#![tactic(auto)]
+
 ghost use Rattle.std.specs.Prelude.{◌≡◌, ◌-◌, ◌≤◌, length};
 ghost use Rattle.lists.specs.Parts.{part};
 ghost use Rattle.unpacker.specs.Stepping.{min_room};

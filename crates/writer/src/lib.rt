@@ -1,4 +1,6 @@
 // Filling containers from a list of messages, in the one way of document 01.
+#![tactic(auto)]
+
 mod cursor;
 mod fill;
 mod group;

@@ -1,0 +1,118 @@
+// The configuration of a log: its numbers, judged as they are read, and the ledger that they start.
+ghost use Rattle.std.specs.Prelude.{◌≡◌, ◌≤◌, ◌<◌};
+ghost use Rattle.logs.specs.Log.{misconfigures, receiver_at, suits, value_ok, configuration_at, configuration_of, ledger_of};
+
+use cause::{Cause, Verdict};
+use ledger::Ledger;
+use pools::{MAX_CAPACITY, MAX_PLANES, Receiver, take_row};
+use record::{Number, read_number};
+
+// The numbers of a configuration: the format, and those of each direction.
+const NUMBERS: usize = 33;
+
+const RECEIVER_NUMBERS: usize = 16;
+
+// The numbers of a configuration, its bytes, and whether it is one; none where it is not.
+#[derive(Drop)]
+pub struct Configuration {
+    pub numbers: [u32; NUMBERS],
+    pub used: usize,
+    pub verdict: Verdict,
+}
+
+// The receiver of the sixteen numbers from `start` on.
+fn take_receiver(numbers: [u32; NUMBERS], start: usize) -> Receiver
+    requires { start ≤ 17 }
+    ensures { result ≡ receiver_at numbers start }
+{
+    let capacities = take_row(&numbers, start + 2);
+    Receiver {
+        planes: numbers[start],
+        push: numbers[start + 1] == 1,
+        capacities: capacities,
+    }
+}
+
+// Whether a value may be the number at a place of a receiver's sixteen.
+fn suits_receiver(receiver: Receiver, place: u32, value: u32) -> bool
+    ensures { result ≡ suits receiver place value }
+{
+    if place == 0 {
+        if value < 1 {
+            return false;
+        }
+        return value <= MAX_PLANES;
+    }
+    if place == 1 {
+        return value < 2;
+    }
+    if MAX_CAPACITY < value {
+        return false;
+    }
+    if value == 0 {
+        return true;
+    }
+    receiver.has_pool(place - 2)
+}
+
+// Whether a value may be number i of a configuration, behind the numbers before it.
+fn suits_place(numbers: [u32; NUMBERS], i: usize, value: u32) -> bool
+    requires { i < 33 }
+    ensures { result ≡ value_ok numbers i value }
+{
+    if i == 0 {
+        return value < 2;
+    }
+    let start = (i - 1) / RECEIVER_NUMBERS * RECEIVER_NUMBERS + 1;
+    let place = (i - 1) % RECEIVER_NUMBERS;
+    suits_receiver(take_receiver(numbers, start), place as u32, value)
+}
+
+// No configuration.
+fn refuse_numbers(cause: Cause, place: u64) -> Configuration
+    ensures { result ≡ configuration_of (misconfigures cause place) }
+{
+    Configuration {
+        numbers: [0u32; NUMBERS],
+        used: 0,
+        verdict: Verdict::Refused(cause, place),
+    }
+}
+
+// The configuration at the front of the bytes: each number is judged for its form and then for its value.
+pub fn read_configuration(bytes: &[u8]) -> Configuration
+    ensures { result ≡ configuration_of (configuration_at bytes.now) }
+{
+    let mut numbers = [0u32; NUMBERS];
+    let mut at = 0;
+    for i in 0..NUMBERS {
+        let number = read_number(&bytes[at..]);
+        match number {
+            Number::Broken => {
+                return refuse_numbers(Cause::BrokenRecord, at as u64);
+            }
+            Number::Value { value, used } => {
+                if !suits_place(numbers, i, value) {
+                    return refuse_numbers(Cause::InvalidState, 0);
+                }
+                numbers[i] = value;
+                at += used;
+            }
+        }
+    }
+    Configuration {
+        numbers: numbers,
+        used: at,
+        verdict: Verdict::Accepted,
+    }
+}
+
+// The ledger that a configuration starts.
+pub fn start_ledger(numbers: [u32; NUMBERS]) -> Ledger
+    ensures { result ≡ ledger_of numbers }
+{
+    let first = take_receiver(numbers, 1);
+    let second = take_receiver(numbers, 1 + RECEIVER_NUMBERS);
+    let created = Ledger::fresh(numbers[0], first, second);
+    created.ledger
+}

@@ -1,0 +1,216 @@
+// The log: its verdict, read in parts. The caller keeps the bytes that a call has not used and puts the next ones behind them.
+ghost use Rattle.std.specs.Prelude.{◌≡◌, ◌+◌, ◌*◌, ◌≤◌, length};
+ghost use Rattle.logs.specs.Log.{configuration_at};
+ghost use Rattle.logs.specs.Stream.{max_entries, stopped_at, start_by, beginning, consuming, fresh_reader};
+ghost use Rattle.logs.specs.ConcludingMirror.{concluding, counts_ok, read_on};
+
+use crate::configuration::{read_configuration, start_ledger};
+use cause::{Cause, Verdict};
+use ledger::Ledger;
+
+// The verdict on a log.
+#[derive(Drop)]
+pub enum LogVerdict {
+    Accepted {
+        entries: u32,
+    },
+    Refused {
+        entries: u32,
+        cause: Cause,
+        place: u64,
+    },
+}
+
+// What a call comes to: more bytes are asked for, or the verdict is there.
+#[derive(Drop)]
+pub enum Outcome {
+    More,
+    Over(LogVerdict),
+}
+
+// A log between two calls: the entries accepted and the bytes used, 0 before the configuration.
+#[derive(Drop)]
+pub struct LogReader {
+    pub ledger: Ledger,
+    pub entries: u32,
+    pub offset: u64,
+}
+
+// The next state, how many of the bytes at hand are used, and what the call comes to.
+#[derive(Drop)]
+pub struct Consumed {
+    pub reader: LogReader,
+    pub used: usize,
+    pub outcome: Outcome,
+}
+
+// The most entries of a log.
+const MAX_ENTRIES: u32 = 16777215;
+
+// The bytes of a configuration, and those of an entry.
+const SHORTEST_CONFIGURATION: u64 = 33;
+
+const LONGEST_CONFIGURATION: u64 = 165;
+
+const SHORTEST_ENTRY: u64 = 257;
+
+const LONGEST_ENTRY: u64 = 261;
+
+// A refusal behind so many entries.
+fn refuse_log(entries: u32, cause: Cause, place: u64) -> Outcome
+    ensures { result ≡ Outcome.Over (LogVerdict.Refused entries cause place) }
+{
+    Outcome::Over(LogVerdict::Refused {
+        entries: entries,
+        cause: cause,
+        place: place,
+    })
+}
+
+// What is said behind so many entries and bytes, where the bytes left do not begin with a whole entry, or no more entries may be.
+fn conclude(entries: u32, offset: u64, left: usize, ended: bool) -> Outcome
+    ensures { result ≡ concluding entries offset left ended }
+{
+    if left == 0 {
+        if ended {
+            return Outcome::Over(LogVerdict::Accepted { entries: entries });
+        }
+        return Outcome::More;
+    }
+    if MAX_ENTRIES <= entries {
+        return refuse_log(entries, Cause::TooLong, 0);
+    }
+    if ended {
+        return refuse_log(entries, Cause::BrokenRecord, offset);
+    }
+    if LONGEST_ENTRY <= left as u64 {
+        return refuse_log(entries, Cause::BrokenRecord, offset);
+    }
+    Outcome::More
+}
+
+// A call that stops at byte `at`.
+fn stop_at(at: usize, reader: LogReader, outcome: Outcome) -> Consumed
+    ensures { result ≡ stopped_at at reader outcome }
+{
+    Consumed {
+        reader: reader,
+        used: at,
+        outcome: outcome,
+    }
+}
+
+impl LogReader {
+    // A log before its configuration.
+    pub fn fresh() -> LogReader
+        ensures { result ≡ fresh_reader }
+    {
+        let numbers = [0u32; 33];
+        let ledger = start_ledger(numbers);
+        LogReader {
+            ledger: ledger,
+            entries: 0,
+            offset: 0,
+        }
+    }
+
+    // Whether as many bytes are used as the configuration and the entries may have, and none of either before the configuration.
+    fn has_valid_counts(self) -> bool
+        ensures { result ≡ counts_ok self }
+    {
+        let entries = self.entries;
+        let offset = self.offset;
+        if offset == 0 {
+            return entries == 0;
+        }
+        if MAX_ENTRIES < entries {
+            return false;
+        }
+        if offset < SHORTEST_CONFIGURATION + SHORTEST_ENTRY * (entries as u64) {
+            return false;
+        }
+        offset <= LONGEST_CONFIGURATION + LONGEST_ENTRY * (entries as u64)
+    }
+
+    // Audits the entries from byte `from` on.
+    fn read_entries(self, bytes: &[u8], from: usize, ended: bool) -> Consumed
+        requires { (from ≤ length bytes.now) × (self.entries ≤ max_entries) × (self.offset ≤ 165 + 261 * self.entries) }
+        ensures { result ≡ read_on self bytes.now from ended }
+    {
+        let run = self
+            .ledger
+            .audit_entries(&bytes[from..], MAX_ENTRIES - self.entries);
+        let ledger = run.ledger;
+        let answer = run.answer;
+        let at = from + run.used;
+        let entries = self.entries + run.accepted;
+        let offset = self.offset + run.used as u64;
+        let reader = LogReader {
+            ledger: ledger,
+            entries: entries,
+            offset: offset,
+        };
+        match answer {
+            Verdict::Refused(cause, place) => stop_at(
+                at,
+                reader,
+                refuse_log(entries, cause, place),
+            ),
+            Verdict::Accepted => stop_at(
+                at,
+                reader,
+                conclude(entries, offset, bytes.len() - at, ended),
+            ),
+        }
+    }
+
+    // Reads the configuration and judges the entries behind it.
+    fn configure(self, bytes: &[u8], ended: bool) -> Consumed
+        ensures { result ≡ start_by self bytes.now ended (configuration_at bytes.now) }
+    {
+        let configuration = read_configuration(bytes);
+        let verdict = configuration.verdict;
+        match verdict {
+            Verdict::Refused(cause, place) => stop_at(0, self, refuse_log(0, cause, place)),
+            Verdict::Accepted => {
+                let numbers = configuration.numbers;
+                let used = configuration.used;
+                let ledger = start_ledger(numbers);
+                let reader = LogReader {
+                    ledger: ledger,
+                    entries: 0,
+                    offset: used as u64,
+                };
+                reader.read_entries(bytes, used, ended)
+            }
+        }
+    }
+
+    // Begins the log once enough bytes are at hand.
+    fn begin(self, bytes: &[u8], ended: bool) -> Consumed
+        ensures { result ≡ beginning self bytes.now ended }
+    {
+        if ended {
+            return self.configure(bytes, ended);
+        }
+        if (bytes.len() as u64) < LONGEST_ENTRY {
+            return stop_at(0, self, Outcome::More);
+        }
+        self.configure(bytes, ended)
+    }
+
+    // Judges the bytes at hand: those that the last call has left, and the next ones behind them; `ended` where the log has no more.
+    pub fn consume(self, bytes: &[u8], ended: bool) -> Consumed
+        ensures { result ≡ consuming self bytes.now ended }
+    {
+        let entries = self.entries;
+        let offset = self.offset;
+        if !self.has_valid_counts() {
+            return stop_at(0, self, refuse_log(entries, Cause::InvalidState, 0));
+        }
+        if offset == 0 {
+            return self.begin(bytes, ended);
+        }
+        self.read_entries(bytes, 0, ended)
+    }
+}
