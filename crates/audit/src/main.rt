@@ -17,7 +17,7 @@ use text::write_verdict;
 const ROOM: usize = 64;
 
 // What a turn comes to: the log goes on, the verdict is there, or the input could not be read.
-#[derive(Drop)]
+#[derive(Clone, Copy)]
 pub enum Progress {
     On,
     Over(LogVerdict),
@@ -25,7 +25,7 @@ pub enum Progress {
 }
 
 // The log behind a turn: its state, and the bytes of the window that are left, from `at` up to `have`.
-#[derive(Drop)]
+#[derive(Clone, Copy)]
 pub struct Turn {
     pub reader: LogReader,
     pub at: usize,

@@ -5,7 +5,7 @@ ghost use Rattle.std.specs.Prelude.{◌≡◌};
 ghost use Rattle.cause.specs.Causes.{cause_number};
 
 // Why an input is refused: one variant for each number of the table of causes, in its order.
-#[derive(Drop)]
+#[derive(Clone, Copy)]
 pub enum Cause {
     ContainerLength,
     RoomTooSmall,
@@ -33,7 +33,7 @@ pub enum Cause {
 pub const HEADER_PLACE: u64 = 12;
 
 // What a list of checks finds: nothing, or the first cause with its place.
-#[derive(Drop)]
+#[derive(Clone, Copy)]
 pub enum Verdict {
     Accepted,
     Refused(Cause, u64),

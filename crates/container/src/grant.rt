@@ -6,7 +6,7 @@ ghost use Rattle.container.specs.Grants.{grant_of, header_grant, plane_allowed, 
 use crate::layout::read_header;
 
 // A grant: ShC, RP and the REQ, RSP, SNP and DAT counts (terms of document 01).
-#[derive(Drop)]
+#[derive(Clone, Copy)]
 pub struct Grant {
     pub shc: bool,
     pub rp: u8,

@@ -15,7 +15,7 @@ const FORMATS: u32 = 2;
 const LONGEST_RUN: u32 = 4;
 
 // The positions in the response list and in the other one, and the responses handed out in a row while the other list waited.
-#[derive(Drop)]
+#[derive(Clone, Copy)]
 pub struct Feed {
     pub response: usize,
     pub other: usize,
@@ -23,7 +23,7 @@ pub struct Feed {
 }
 
 // The answer of an ask: the list that the record is taken from, that both are empty, or the refusal with the list at fault.
-#[derive(Drop)]
+#[derive(Clone, Copy)]
 pub enum Answer {
     Handed {
         list: Waiting,
@@ -37,7 +37,7 @@ pub enum Answer {
 }
 
 // The next feed and the answer.
-#[derive(Drop)]
+#[derive(Clone, Copy)]
 pub struct Step {
     pub feed: Feed,
     pub answer: Answer,

@@ -7,7 +7,7 @@ use record::{First, read_record};
 use slices::byte_at;
 
 // One of the two waiting lists, or neither.
-#[derive(Drop)]
+#[derive(Clone, Copy)]
 pub enum Waiting {
     Responses,
     Others,
@@ -15,7 +15,7 @@ pub enum Waiting {
 }
 
 // What stands at a position of a list: a record that belongs there, up to its end, or a broken or misplaced one.
-#[derive(Drop)]
+#[derive(Clone, Copy)]
 pub enum Found {
     Right { end: usize },
     Wrong,

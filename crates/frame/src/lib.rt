@@ -10,7 +10,7 @@ use record::{Number, read_number};
 
 // What stands at the front of bytes: no number, a number with fewer bytes behind it than a container has, or a whole entry, whose container
 // begins at `start`.
-#[derive(Drop)]
+#[derive(Clone, Copy)]
 pub enum Framed {
     Broken,
     Short,

@@ -9,7 +9,7 @@ use libc::{EINTR, STDIN_FILENO};
 use slices::move_front;
 
 // What a refill comes to.
-#[derive(Drop)]
+#[derive(Clone, Copy)]
 pub enum Refill {
     // The bytes at hand: those that were kept, and at least one more.
     Got(usize),

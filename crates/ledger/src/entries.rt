@@ -9,7 +9,7 @@ use container::CONTAINER;
 use frame::{Framed, frame_entry};
 
 // The ledger behind the entries, how many are accepted, their bytes, and the last answer.
-#[derive(Drop)]
+#[derive(Clone, Copy)]
 pub struct Run {
     pub ledger: Ledger,
     pub accepted: u32,

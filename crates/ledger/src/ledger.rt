@@ -21,7 +21,7 @@ use slices::byte_at;
 
 // The carries of both directions, for each direction and pool, at 14 · direction + pool, the credits held and the messages open, the
 // receivers of both directions, and a format.
-#[derive(Drop)]
+#[derive(Clone, Copy)]
 pub struct Ledger {
     pub carry0: Carry,
     pub carry1: Carry,
@@ -33,21 +33,21 @@ pub struct Ledger {
 }
 
 // The next ledger and the answer.
-#[derive(Drop)]
+#[derive(Clone, Copy)]
 pub struct Step {
     pub ledger: Ledger,
     pub answer: Verdict,
 }
 
 // A new ledger, and whether its format and receivers are valid.
-#[derive(Drop)]
+#[derive(Clone, Copy)]
 pub struct Created {
     pub ledger: Ledger,
     pub verdict: Verdict,
 }
 
 // The answer of a report: the credits held and the slots of open messages, of one direction and pool.
-#[derive(Drop)]
+#[derive(Clone, Copy)]
 pub enum Reported {
     Accepted { held: Credits, opened: Slots },
     Refused { cause: Cause, place: u64 },

@@ -13,7 +13,7 @@ const NUMBERS: usize = 33;
 const RECEIVER_NUMBERS: usize = 16;
 
 // The numbers of a configuration, its bytes, and whether it is one; none where it is not.
-#[derive(Drop)]
+#[derive(Clone, Copy)]
 pub struct Configuration {
     pub numbers: [u32; NUMBERS],
     pub used: usize,

@@ -9,7 +9,7 @@ use cause::{Cause, Verdict};
 use ledger::Ledger;
 
 // The verdict on a log.
-#[derive(Drop)]
+#[derive(Clone, Copy)]
 pub enum LogVerdict {
     Accepted {
         entries: u32,
@@ -22,14 +22,14 @@ pub enum LogVerdict {
 }
 
 // What a call comes to: more bytes are asked for, or the verdict is there.
-#[derive(Drop)]
+#[derive(Clone, Copy)]
 pub enum Outcome {
     More,
     Over(LogVerdict),
 }
 
 // A log between two calls: the entries accepted and the bytes used, 0 before the configuration.
-#[derive(Drop)]
+#[derive(Clone, Copy)]
 pub struct LogReader {
     pub ledger: Ledger,
     pub entries: u32,
@@ -37,7 +37,7 @@ pub struct LogReader {
 }
 
 // The next state, how many of the bytes at hand are used, and what the call comes to.
-#[derive(Drop)]
+#[derive(Clone, Copy)]
 pub struct Consumed {
     pub reader: LogReader,
     pub used: usize,

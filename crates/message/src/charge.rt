@@ -7,14 +7,14 @@ use crate::heads::{Class, classify_message};
 use crate::place::count_responses;
 
 // An amount of credits of one pool.
-#[derive(Drop)]
+#[derive(Clone, Copy)]
 pub struct Charge {
     pub pool: u8,
     pub amount: u32,
 }
 
 // The charges of a message, REQ before DAT.
-#[derive(Drop)]
+#[derive(Clone, Copy)]
 pub enum Charges {
     Free,
     One(Charge),

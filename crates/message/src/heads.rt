@@ -12,7 +12,7 @@ use container::is_form;
 use slices::{byte_at, is_zero, is_zero_from};
 
 // Which credits a message pays, by its type.
-#[derive(Drop)]
+#[derive(Clone, Copy)]
 pub enum Class {
     Unknown,
     Request,

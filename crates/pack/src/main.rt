@@ -14,7 +14,7 @@ use packing::{MAX_OUTPUT, pack_into};
 const MAX_INPUT: usize = 4102;
 
 // What was read: so many bytes, or a read has failed.
-#[derive(Drop)]
+#[derive(Clone, Copy)]
 pub enum Input {
     Bytes(usize),
     Failed,

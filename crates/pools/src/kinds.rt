@@ -4,11 +4,11 @@ ghost use Rattle.std.specs.Prelude.{◌≡◌, ◌+◌, ◌-◌, ◌<◌, ◌^�
 use crate::table::ROW;
 
 // Credits of one pool.
-#[derive(Drop)]
+#[derive(Clone, Copy)]
 pub struct Credits(pub u32);
 
 // Slots of one pool.
-#[derive(Drop)]
+#[derive(Clone, Copy)]
 pub struct Slots(pub u32);
 
 impl Credits {

@@ -23,7 +23,7 @@ const DATA_POOL: u32 = 12;
 const PUSH_POOL: u32 = 13;
 
 // Its planes, whether it takes push data, and the capacities of its pools.
-#[derive(Drop)]
+#[derive(Clone, Copy)]
 pub struct Receiver {
     pub planes: u32,
     pub push: bool,

@@ -18,7 +18,7 @@ use message::{
 use slices::byte_at;
 
 // The first fault, and the counts by pool.
-#[derive(Drop)]
+#[derive(Clone, Copy)]
 pub struct Tally {
     pub verdict: Verdict,
     pub counts: [u32; ROW],

@@ -11,7 +11,7 @@ use slices::is_zero;
 pub const CARRY: usize = 100;
 
 // What was read of a message that goes on in the next container of its direction, and how many bytes that is, with zeros behind.
-#[derive(Drop)]
+#[derive(Clone, Copy)]
 pub struct Carry {
     pub bytes: [u8; CARRY],
     pub len: usize,

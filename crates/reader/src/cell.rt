@@ -13,7 +13,7 @@ use slices::{byte_at, is_zero, is_zero_from};
 
 // The answer of judging a granule: the mark that its group and the header are judged by and the size of the message that starts, 0 for none,
 // or the cause of the refusal.
-#[derive(Drop)]
+#[derive(Clone, Copy)]
 pub enum CellAnswer {
     Accepted(u8, usize),
     Refused(Cause),

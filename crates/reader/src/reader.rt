@@ -16,7 +16,7 @@ use cause::{Cause, Verdict};
 use container::{CONTAINER, Grant, read_grant, read_msgstart};
 
 // What is carried, and a format.
-#[derive(Drop)]
+#[derive(Clone, Copy)]
 pub struct Reader {
     pub carry: Carry,
     pub format: u32,
@@ -26,35 +26,35 @@ pub struct Reader {
 pub const ROOM: usize = 352;
 
 // The answer of a reading: the bytes written and the header grant, or the refusal.
-#[derive(Drop)]
+#[derive(Clone, Copy)]
 pub enum Answer {
     Accepted { written: usize, grant: Grant },
     Refused { cause: Cause, place: u64 },
 }
 
 // The next reader and the answer.
-#[derive(Drop)]
+#[derive(Clone, Copy)]
 pub struct Step {
     pub reader: Reader,
     pub answer: Answer,
 }
 
 // The answer of a judging: the header grant and MsgStart, or the refusal.
-#[derive(Drop)]
+#[derive(Clone, Copy)]
 pub enum JudgeAnswer {
     Accepted { grant: Grant, msgstart: u16 },
     Refused { cause: Cause, place: u64 },
 }
 
 // The next reader and the answer.
-#[derive(Drop)]
+#[derive(Clone, Copy)]
 pub struct Judged {
     pub reader: Reader,
     pub answer: JudgeAnswer,
 }
 
 // A new reader, and whether its format is one.
-#[derive(Drop)]
+#[derive(Clone, Copy)]
 pub struct Created {
     pub reader: Reader,
     pub verdict: Verdict,

@@ -10,7 +10,7 @@ use cause::Verdict;
 use container::{GRANULES, starts_at};
 
 // The first fault, the marks of the granules, and the message in progress behind them.
-#[derive(Drop)]
+#[derive(Clone, Copy)]
 pub struct Scan {
     pub verdict: Verdict,
     pub marks: [u8; MARKS],

@@ -9,7 +9,7 @@ use message::measure_message;
 
 // What is owed of it, its size, the granule from which on it is read, and how many bytes of the old carry belong to it. No message is in
 // progress where nothing is owed.
-#[derive(Drop)]
+#[derive(Clone, Copy)]
 pub struct Track {
     pub owed: usize,
     pub size: usize,

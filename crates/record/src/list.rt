@@ -10,7 +10,7 @@ use message::is_message;
 pub const LONGEST_LIST: usize = 4096;
 
 // The first record of a list: none, a broken one, or the bytes of its message from start to end.
-#[derive(Drop)]
+#[derive(Clone, Copy)]
 pub enum First {
     Empty,
     Bad,

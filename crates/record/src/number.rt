@@ -4,14 +4,14 @@ ghost use Rattle.std.specs.Prelude.{◌≡◌, ◌≤◌};
 ghost use Rattle.record.specs.Number.{used_of, joined, read_groups, read_number, encoded};
 
 // What stands at the front of a list.
-#[derive(Drop)]
+#[derive(Clone, Copy)]
 pub enum Number {
     Broken,
     Value { value: u32, used: usize },
 }
 
 // A number as bytes, zeros behind, and how many of them it has.
-#[derive(Drop)]
+#[derive(Clone, Copy)]
 pub struct Encoded {
     pub bytes: [u8; 5],
     pub len: usize,

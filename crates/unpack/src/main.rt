@@ -12,7 +12,7 @@ use libc::STDOUT_FILENO;
 use unpacker::{MIN_ROOM, Outcome, Unpacker};
 
 // What a turn comes to: the next one can go on, the verdict is there, the input could not be read, or the text could not be written.
-#[derive(Drop)]
+#[derive(Clone, Copy)]
 pub enum Progress {
     On,
     Over,
@@ -21,7 +21,7 @@ pub enum Progress {
 }
 
 // The bytes at hand, from `at` up to `have` in the buffer, whether the input has ended, and what the turn comes to.
-#[derive(Drop)]
+#[derive(Clone, Copy)]
 pub struct Window {
     pub at: usize,
     pub have: usize,
@@ -30,7 +30,7 @@ pub struct Window {
 }
 
 // The input behind a turn, and how many bytes of text stand in the room.
-#[derive(Drop)]
+#[derive(Clone, Copy)]
 pub struct Turn {
     pub unpacker: Unpacker,
     pub written: usize,

@@ -24,7 +24,7 @@ pub const MIN_ROOM: usize = 704;
 const MAX_CONTAINERS: u64 = 72057594037927935;
 
 // What a call comes to: more bytes are asked for, the next call can go on, or the verdict is there.
-#[derive(Drop)]
+#[derive(Clone, Copy)]
 pub enum Outcome {
     More,
     Next,
@@ -32,7 +32,7 @@ pub enum Outcome {
 }
 
 // An input between two calls: the containers accepted and the bytes used, 0 before the format.
-#[derive(Drop)]
+#[derive(Clone, Copy)]
 pub struct Unpacker {
     pub reader: Reader,
     pub entries: u64,
@@ -41,7 +41,7 @@ pub struct Unpacker {
 
 // The next state, how many of the bytes at hand are used, how many bytes of text stand at the front of the room, and what the call
 // comes to.
-#[derive(Drop)]
+#[derive(Clone, Copy)]
 pub struct Unpacked {
     pub unpacker: Unpacker,
     pub used: usize,

@@ -16,7 +16,7 @@ use slices::{byte_at, clear};
 
 // What is owed is `left` bytes from `from` on, of the old tail or of the list; `at` bytes of the list are used, and `msgstart` is
 // MsgStart so far.
-#[derive(Drop)]
+#[derive(Clone, Copy)]
 pub struct Cursor {
     pub tail: bool,
     pub from: usize,

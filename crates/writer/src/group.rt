@@ -8,7 +8,7 @@ use container::{Grant, has_counts};
 use message::{ACTIVATION, count_miscs, count_responses, is_misc, may_start};
 
 // Whether all its cells so far are populated, and how many MiscU and responses start in them.
-#[derive(Drop)]
+#[derive(Clone, Copy)]
 pub struct Group {
     pub full: bool,
     pub miscs: u32,

@@ -18,7 +18,7 @@ use slices::{copy_into, is_zero};
 const TAIL: usize = 100;
 
 // A format, and the tail that is owed of a message begun before, with zeros behind.
-#[derive(Drop)]
+#[derive(Clone, Copy)]
 pub struct Writer {
     pub format: u32,
     pub tail: [u8; TAIL],
@@ -26,21 +26,21 @@ pub struct Writer {
 }
 
 // The answer of a fill: the bytes of the list used, or the refusal.
-#[derive(Drop)]
+#[derive(Clone, Copy)]
 pub enum Answer {
     Accepted { used: usize },
     Refused { cause: Cause, place: u64 },
 }
 
 // The next writer and the answer.
-#[derive(Drop)]
+#[derive(Clone, Copy)]
 pub struct Step {
     pub writer: Writer,
     pub answer: Answer,
 }
 
 // A new writer, and whether its format is one.
-#[derive(Drop)]
+#[derive(Clone, Copy)]
 pub struct Created {
     pub writer: Writer,
     pub verdict: Verdict,
