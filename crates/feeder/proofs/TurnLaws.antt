@@ -78,7 +78,7 @@ pub asked : (f : ℕ) (l : Lists) (s : Feed) (t : Turn) → Asks f l s t
     → Valid f l.responses l.others s × Turned l.responses l.others s t.step t.bytes
 asked f l s t q =
     let r : Rule f l.responses l.others s t.step t.bytes =
-    rw (q.step, q.bytes) at (follows f l.responses l.others s q.of-bytes.0 q.of-bytes.1) in
+    rw (q.step, q.bytes) at (follows f l.responses l.others s q.of_bytes.0 q.of_bytes.1) in
     rule_turned f l.responses l.others s t.step t.bytes r q.accepted
 
 -- ---- one ask, seen from one list

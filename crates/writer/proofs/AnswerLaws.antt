@@ -109,7 +109,7 @@ module _ (w : Writer) (l : List ℕ) (n : Grant) (c : List ℕ) (long : length w
 
   module _ (p : Cursor) (ep : p ≡ cursor_at fm n t l 12) where
     sane : Sane t l 12 p
-    sane = rw ep (sane_at w.format n t l fill-asks.1.0 fill-asks.1.1 can.short 12 (omega arith))
+    sane = rw ep (sane_at w.format n t l fill_asks.1.0 fill_asks.1.1 can.short 12 (omega arith))
 
     pub starts_low : p.msgstart < 4096
     starts_low = let h = sane.starts_low in omega arith
@@ -124,7 +124,7 @@ module _ (w : Writer) (l : List ℕ) (n : Grant) (c : List ℕ) (long : length w
     left_within = sane.within
 
     owes : owed_of t l p ≡ owes_after fm n (tail_of w) l
-    owes = ap (owed_of t l) ep ∙ sym (held_owes w.format n t l fill-asks.1.0 fill-asks.1.1 can.short) ∙ ap (λ (x : List ℕ). owes_after fm n x l) (tail_part w)
+    owes = ap (owed_of t l) ep ∙ sym (held_owes w.format n t l fill_asks.1.0 fill_asks.1.1 can.short) ∙ ap (λ (x : List ℕ). owes_after fm n x l) (tail_part w)
 
     pub fill_done : (a : List ℕ) → a ≡ pad 100 (owed_of t l p)
         → ◌≡◌ {A = Step} (record { writer = record { format = w.format; tail = a; len = p.left }; answer = answer.Accepted p.at }) (filling w l n (length c))
@@ -133,7 +133,7 @@ module _ (w : Writer) (l : List ℕ) (n : Grant) (c : List ℕ) (long : length w
         let at : a ≡ pad 100 (owes_after fm n (tail_of w) l) = ea ∙ ap (pad 100) owes in
         let len : p.left ≡ length (owes_after fm n (tail_of w) l) = sym (owed_length t l 12 p sane) ∙ ap length owes in
         let used : p.at ≡ used_of fm n (tail_of w) l =
-        ap (λ (x : Cursor). x.at) ep ∙ sym (held_used w.format n t l fill-asks.1.0 fill-asks.1.1 can.short) ∙ ap (λ (x : List ℕ). used_of fm n x l) (tail_part w) in
+        ap (λ (x : Cursor). x.at) ep ∙ sym (held_used w.format n t l fill_asks.1.0 fill_asks.1.1 can.short) ∙ ap (λ (x : List ℕ). used_of fm n x l) (tail_part w) in
         (λ i. record { writer = record { format = w.format; tail = at i; len = len i }; answer = answer.Accepted (used i) })
         ∙ (λ i. record { writer = when_accepted (sym e i) (writer_with w.format (owes_after fm n (tail_of w) l)) w; answer = answer_of (sym e i) (used_of fm n (tail_of w) l) })
 
@@ -142,5 +142,5 @@ module _ (w : Writer) (l : List ℕ) (n : Grant) (c : List ℕ) (long : length w
     bytes_done d x ex ed =
         ed ∙ ap (set_all fm.place 0 (header_bytes n p.msgstart)) ex
         ∙ ap (λ (y : Cursor). set_all fm.place 0 (header_bytes n y.msgstart) (laid_to fm n t l 12)) ep
-        ∙ sym (held_filled w.format n t l fill-asks.1.0 fill-asks.1.1 can.short)
+        ∙ sym (held_filled w.format n t l fill_asks.1.0 fill_asks.1.1 can.short)
         ∙ ap (λ (y : List ℕ). filled fm n y l) (tail_part w) ∙ rw e

@@ -1,0 +1,5 @@
+use borrow.Author.Rules.{rules}
+use Rattle.pools.proofs.granted.choose_req.Goals as goal
+
+pub returns : goal.returns
+returns c = rw c.if-grant.false

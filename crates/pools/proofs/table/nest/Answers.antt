@@ -1,0 +1,6 @@
+use native.Mathlib.Omega.{arith}
+use borrow.Author.Rules.{rules}
+use Rattle.pools.proofs.table.nest.Goals as goal
+
+pub returns : goal.returns
+returns c = rw (c.copy_row-first.ensures, c.copy_row-second.ensures)

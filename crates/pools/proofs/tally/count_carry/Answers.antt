@@ -1,0 +1,6 @@
+use mathlib.Core.Path.{◌∙◌}
+use borrow.Author.Rules.{rules}
+use Rattle.pools.proofs.tally.count_carry.Goals as goal
+
+pub returns : goal.returns
+returns c = c.claim_row.ensures ∙ c.count_payment-paid.ensures

@@ -1,0 +1,12 @@
+use Rattle.reader.proofs.MarkLaws.{activations_stop, activations_go_on, activations_end}
+use Prim.Native.Nat.{◌≤◌, ◌-◌}
+use mathlib.Core.Path.{◌≡◌, refl}
+use native.Mathlib.Omega.{arith}
+use Rattle.reader.specs.TrackingMirror.{activation_marks}
+use Rattle.reader.proofs.group.has_activation.Given as goal
+
+abbrev pub invariant-loop-i : goal.invariant-loop-i
+invariant-loop-i l = (l.i ≤ 12) × (activation_marks 12 0 l.marks ≡ activation_marks (12 - l.i) l.i l.marks)
+
+abbrev pub decreases-loop-i : goal.decreases-loop-i
+decreases-loop-i l = 12 - l.i

@@ -1,0 +1,11 @@
+use borrow.Author.Rules.{rules}
+use Prim.Native.Nat.{◌-◌}
+use native.Mathlib.Omega.{arith}
+use Rattle.reader.proofs.ScanLaws.{Scanning, scan_starts, scan_stops, scan_goes_on, scan_ends}
+use Rattle.reader.proofs.scan.scan_granules.Given as goal
+
+abbrev pub invariant-loop-g : goal.invariant-loop-g
+invariant-loop-g l = Scanning l.format l.container l.carry l.marks l.track l.g
+
+abbrev pub decreases-loop-g : goal.decreases-loop-g
+decreases-loop-g l = 12 - l.g

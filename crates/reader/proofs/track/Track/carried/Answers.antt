@@ -1,0 +1,5 @@
+use borrow.Author.Rules.{rules}
+use Rattle.reader.proofs.track.Track.carried.Goals as goal
+
+pub returns : goal.returns
+returns c = rw (c.count_rest.ensures, c.measure_message-size.ensures)

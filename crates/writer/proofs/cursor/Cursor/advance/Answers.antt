@@ -1,0 +1,5 @@
+use borrow.Author.Rules.{rules}
+use Rattle.writer.proofs.cursor.Cursor.advance.Goals as goal
+
+pub returns : goal.returns
+returns c = rw c.add.ensures
