@@ -4,6 +4,7 @@ use native.Mathlib.Omega.{arith}
 use mathlib.Core.Path.{◌∙◌}
 use mathlib.Core.Logic.{⊎_elim}
 use Rattle.reader.proofs.GatherLaws.{Gathering, gathering_none, gathering_room, gathering_more, gathering_over, gathering_all}
+use Rattle.reader.proofs.gather.gather_granules.Goals.{then-measure_granule-eq-WIDE, else-measure_granule-eq-WIDE}
 use Rattle.reader.proofs.gather.gather_granules.Goals as goal
 
 pub loop-k-init : goal.loop-k-init
@@ -35,10 +36,10 @@ pub loop-k-smaller : goal.loop-k-smaller
 loop-k-smaller c = omega arith
 
 pub loop-k-preserved : goal.loop-k-preserved
-loop-k-preserved c = ⊎_elim
-    (λ w. gathering_more _ _ _ _ _ _ _ _ _ c.requires.container_len.0 c.requires.container_len.1 c.requires.count_in_bounds c.loop-k.invariant c.loop-k-test.true _ c.measure_granule.ensures w.0.taken _ w.1.ensures _ (w.7 ∙ w.4.ensures) _ w.8)
-    (λ w. gathering_over _ _ _ _ _ _ _ _ _ c.requires.container_len.0 c.requires.container_len.1 c.requires.count_in_bounds c.loop-k.invariant c.loop-k-test.true _ c.measure_granule.ensures w.0.left _ w.1 _ w.2)
-    c.if-measure_granule-eq-WIDE.branch
+loop-k-preserved c = elim c.if-measure_granule-eq-WIDE.branch [
+  | then-measure_granule-eq-WIDE w ↦ gathering_more _ _ _ _ _ _ _ _ _ c.requires.container_len.0 c.requires.container_len.1 c.requires.count_in_bounds c.loop-k.invariant c.loop-k-test.true _ c.measure_granule.ensures w.if-measure_granule-eq-WIDE.true _ w.locate_granule-a.ensures _ (w.out-is ∙ w.copy_into.ensures) _ w.end-is
+  | else-measure_granule-eq-WIDE w ↦ gathering_over _ _ _ _ _ _ _ _ _ c.requires.container_len.0 c.requires.container_len.1 c.requires.count_in_bounds c.loop-k.invariant c.loop-k-test.true _ c.measure_granule.ensures w.if-measure_granule-eq-WIDE.false _ w.out-is _ w.end-is
+]
 
 pub shape_of-out : goal.shape_of-out
 shape_of-out c = c.loop-k.invariant.long

@@ -1,4 +1,4 @@
-use Prim.Native.Nat.{ℕ, ◌+◌, ◌-◌, ◌≤◌}
+use Prim.Native.Nat.{ℕ, ◌+◌, ◌-◌, ◌≤◌, ◌<◌}
 use mathlib.Core.Path.{◌≡◌}
 use mathlib.Core.Bool.{false, ◌&&◌}
 use mathlib.Core.List.{List, [], ◌∷◌}
@@ -14,25 +14,17 @@ use Rattle.reader.proofs.EndingCases.{ended_long, ended_later, long_sized, off_i
 use borrow.Author.Rules.{rules}
 use mathlib.Core.Path.{ap}
 use mathlib.Core.Bool.{not}
-use Rattle.reader.proofs.records.write_ending.Goals.{Else-width-size, Joined-track-gt0, Start, Then-track-le-WIDE}
+use Rattle.reader.proofs.records.write_ending.Goals.{Else-width-size, Joined-track-gt0, Then-track-le-WIDE, then-track-gt0+else-width-eq-WIDE, else-track-gt0}
 use Rattle.reader.proofs.records.write_ending.Goals as goal
-
--- what ends in granule g as the code finds it, and the longer message that may end there
-
-abbrev found : Start → List (List ℕ)
-found s = ended_by (format_of s.args.format) s.args.container.now s.args.carry.now s.args.msgstart s.args.track s.args.g
-
-abbrev long : Start → List ℕ
-long s = gathered_message (format_of s.args.format) s.args.container.now s.args.carry.now s.args.track (s.args.g + 1)
 
 -- the granule lies inside the container
 
-inside : (s : Start) → start s.args.g + (format_of s.args.format).size s.args.g ≤ 256
-inside s = (lawful_of s.args.format).inside s.args.g s.requires.from_le_g.1
+inside : (f g : ℕ) → g < 12 → start g + (format_of f).size g ≤ 256
+inside f g low = (lawful_of f).inside g low
 
 -- a longer message ends
 
-long_ends : (c : Then-track-le-WIDE) → (found c ≡ long c ∷ []) × ((c.args.track.size ≡ length (long c)) × (c.args.track.size ≤ 120))
+long_ends : (c : Then-track-le-WIDE) → ((ended_by (format_of c.args.format) c.args.container.now c.args.carry.now c.args.msgstart c.args.track c.args.g) ≡ (gathered_message (format_of c.args.format) c.args.container.now c.args.carry.now c.args.track (c.args.g + 1)) ∷ []) × ((c.args.track.size ≡ length (gathered_message (format_of c.args.format) c.args.container.now c.args.carry.now c.args.track (c.args.g + 1))) × (c.args.track.size ≤ 120))
 long_ends c =
     let width = c.measure_granule-width in (
       ended_long (format_of c.args.format) c.args.container.now c.args.carry.now c.args.msgstart c.args.track c.args.g _ width.ensures c.if-track-gt0.true c.if-width-eq-WIDE.true c.if-track-le-WIDE.true,
@@ -44,10 +36,10 @@ long_ends c =
 off : (c : Joined-track-gt0) → (ltb 0 c.args.track.owed && wide (format_of c.args.format) c.args.g) ≡ false
 off c =
     let width = c.measure_granule-width in
-    ⊎_elim
-    (λ x. off_narrow (format_of c.args.format) c.args.container.now c.args.carry.now c.args.msgstart c.args.track c.args.g _ width.ensures x.1.left)
-    (λ x. off_idle (format_of c.args.format) c.args.container.now c.args.carry.now c.args.msgstart c.args.track c.args.g _ width.ensures x.left)
-    c.if-track-gt0.branch
+    elim c.if-track-gt0.branch [
+      | then-track-gt0+else-width-eq-WIDE x ↦ off_narrow (format_of c.args.format) c.args.container.now c.args.carry.now c.args.msgstart c.args.track c.args.g _ width.ensures x.if-width-eq-WIDE.false
+      | else-track-gt0 x ↦ off_idle (format_of c.args.format) c.args.container.now c.args.carry.now c.args.msgstart c.args.track c.args.g _ width.ensures x.if-track-gt0.false
+    ]
 
 -- a message that starts ends
 
@@ -56,10 +48,10 @@ short c =
     let a = c.locate_granule-a.result in
     take ((a + c.measure_message-size.result) - a) (drop a c.args.container.now)
 
-short_ends : (c : Else-width-size) → (found c ≡ short c ∷ []) × (length (short c) ≤ 20)
-short_ends c =
+short_ends : (c : Else-width-size) → (ltb 0 c.args.track.owed && wide (format_of c.args.format) c.args.g) ≡ false
+    → ((ended_by (format_of c.args.format) c.args.container.now c.args.carry.now c.args.msgstart c.args.track c.args.g) ≡ short c ∷ []) × (length (short c) ≤ 20)
+short_ends c started =
     let width = c.measure_granule-width in
-    let started = off c in
     let bit = c.starts_at.ensures in
     let a = c.locate_granule-a.ensures in
     let n = c.measure_message-size.ensures in (
@@ -69,38 +61,38 @@ short_ends c =
 
 pub write_long-requires : goal.write_long-requires
 write_long-requires c = let e = long_ends (goal.at.write_long-requires c).Then-track-le-WIDE in
-    let fits = one_fits c.args.at c.args.room.now (found (goal.at.write_long-requires c).Start) (long (goal.at.write_long-requires c).Start) e.0 (omega (arith, e.1.0, e.1.1)) c.requires.g_in_bounds in record { container_len = c.requires.container_len; from_le_g = c.requires.from_le_g; size_value = e.1; size_in_bounds = omega (arith, e.1.0, fits) }
+    let fits = one_fits c.args.at c.args.room.now (ended_by (format_of c.args.format) c.args.container.now c.args.carry.now c.args.msgstart c.args.track c.args.g) (gathered_message (format_of c.args.format) c.args.container.now c.args.carry.now c.args.track (c.args.g + 1)) e.0 (omega (arith, e.1.0, e.1.1)) c.requires.g_in_bounds in record { container_len = c.requires.container_len; from_le_g = c.requires.from_le_g; size_value = e.1; size_in_bounds = omega (arith, e.1.0, fits) }
 
 pub returns-then-track-le-WIDE : goal.returns-then-track-le-WIDE
-returns-then-track-le-WIDE c = let both = one_written c.args.at c.args.room.now (found (goal.at.returns-then-track-le-WIDE c).Start) (long (goal.at.returns-then-track-le-WIDE c).Start) (long_ends (goal.at.returns-then-track-le-WIDE c).Then-track-le-WIDE).0 _ _ c.write_long.ensures.end c.write_long.ensures.room in record { end = both.0; room = both.1 }
+returns-then-track-le-WIDE c = let both = one_written c.args.at c.args.room.now (ended_by (format_of c.args.format) c.args.container.now c.args.carry.now c.args.msgstart c.args.track c.args.g) (gathered_message (format_of c.args.format) c.args.container.now c.args.carry.now c.args.track (c.args.g + 1)) (long_ends (goal.at.returns-then-track-le-WIDE c).Then-track-le-WIDE).0 _ _ c.write_long.ensures.end c.write_long.ensures.room in record { end = both.0; room = both.1 }
 
 pub returns-then-width-eq-WIDE : goal.returns-then-width-eq-WIDE
-returns-then-width-eq-WIDE c = let both = none_written c.args.at c.args.room.now (found (goal.at.returns-then-width-eq-WIDE c).Start)
+returns-then-width-eq-WIDE c = let both = none_written c.args.at c.args.room.now (ended_by (format_of c.args.format) c.args.container.now c.args.carry.now c.args.msgstart c.args.track c.args.g)
     (ended_later (format_of c.args.format) c.args.container.now c.args.carry.now c.args.msgstart c.args.track c.args.g _ c.measure_granule-width.ensures c.if-track-gt0.true c.if-width-eq-WIDE.true c.if-track-le-WIDE.false) in record { end = both.0; room = both.1 }
 
 pub returns-then-not-starts_at : goal.returns-then-not-starts_at
-returns-then-not-starts_at c = let both = none_written c.args.at c.args.room.now (found (goal.at.returns-then-not-starts_at c).Start)
+returns-then-not-starts_at c = let both = none_written c.args.at c.args.room.now (ended_by (format_of c.args.format) c.args.container.now c.args.carry.now c.args.msgstart c.args.track c.args.g)
     (ended_none (format_of c.args.format) c.args.container.now c.args.carry.now c.args.msgstart c.args.track c.args.g _ c.measure_granule-width.ensures (off (goal.at.returns-then-not-starts_at c).Joined-track-gt0) _ c.starts_at.ensures (ap not c.if-not-starts_at.true)) in record { end = both.0; room = both.1 }
 
 pub overflow_add-a : goal.overflow_add-a
-overflow_add-a c = omega (arith, inside (goal.at.overflow_add-a c).Start)
+overflow_add-a c = omega (arith, inside c.args.format c.args.g c.requires.from_le_g.1)
 
 pub slice_bounds-measure_message-end : goal.slice_bounds-measure_message-end
-slice_bounds-measure_message-end c = let within = inside (goal.at.slice_bounds-measure_message-end c).Start in search rules
+slice_bounds-measure_message-end c = let within = inside c.args.format c.args.g c.requires.from_le_g.1 in search rules
 
 pub returns-then-width-size : goal.returns-then-width-size
-returns-then-width-size c = let both = none_written c.args.at c.args.room.now (found (goal.at.returns-then-width-size c).Start)
+returns-then-width-size c = let both = none_written c.args.at c.args.room.now (ended_by (format_of c.args.format) c.args.container.now c.args.carry.now c.args.msgstart c.args.track c.args.g)
     (ended_over (format_of c.args.format) c.args.container.now c.args.carry.now c.args.msgstart c.args.track c.args.g _ c.measure_granule-width.ensures (off (goal.at.returns-then-width-size c).Joined-track-gt0) _ c.starts_at.ensures (ap not c.if-not-starts_at.false) _ c.locate_granule-a.ensures _ c.measure_message-size.ensures c.if-width-size.true) in record { end = both.0; room = both.1 }
 
 pub overflow_add-a-2 : goal.overflow_add-a-2
-overflow_add-a-2 c = omega (arith, inside (goal.at.overflow_add-a-2 c).Start)
+overflow_add-a-2 c = omega (arith, inside c.args.format c.args.g c.requires.from_le_g.1)
 
 pub slice_bounds-write_short-end : goal.slice_bounds-write_short-end
-slice_bounds-write_short-end c = let within = inside (goal.at.slice_bounds-write_short-end c).Start in search rules
+slice_bounds-write_short-end c = let within = inside c.args.format c.args.g c.requires.from_le_g.1 in search rules
 
 pub write_short-requires : goal.write_short-requires
-write_short-requires c = let e = short_ends (goal.at.write_short-requires c).Else-width-size in
-    (e.1, one_fits c.args.at c.args.room.now (found (goal.at.write_short-requires c).Start) (short (goal.at.write_short-requires c).Else-width-size) e.0 (omega (arith, e.1)) c.requires.g_in_bounds)
+write_short-requires c = let e = short_ends (goal.at.write_short-requires c).Else-width-size (off (goal.at.write_short-requires c).Joined-track-gt0) in
+    (e.1, one_fits c.args.at c.args.room.now (ended_by (format_of c.args.format) c.args.container.now c.args.carry.now c.args.msgstart c.args.track c.args.g) (short (goal.at.write_short-requires c).Else-width-size) e.0 (omega (arith, e.1)) c.requires.g_in_bounds)
 
 pub returns : goal.returns
-returns c = let both = one_written c.args.at c.args.room.now (found (goal.at.returns c).Start) (short (goal.at.returns c).Else-width-size) (short_ends (goal.at.returns c).Else-width-size).0 _ _ c.write_short.ensures.end c.write_short.ensures.room in record { end = both.0; room = both.1 }
+returns c = let both = one_written c.args.at c.args.room.now (ended_by (format_of c.args.format) c.args.container.now c.args.carry.now c.args.msgstart c.args.track c.args.g) (short (goal.at.returns c).Else-width-size) (short_ends (goal.at.returns c).Else-width-size (off (goal.at.returns c).Joined-track-gt0)).0 _ _ c.write_short.ensures.end c.write_short.ensures.room in record { end = both.0; room = both.1 }

@@ -22,8 +22,7 @@ pub loop-g-smaller : goal.loop-g-smaller
 loop-g-smaller c = omega arith
 
 pub loop-g-preserved : goal.loop-g-preserved
-loop-g-preserved c = let wrote = c.write_ending-at in
-    writing_more _ _ _ _ _ _ _ _ _ c.requires.container_len.0 c.requires.container_len.1 c.requires.msgstart_value c.requires.carry_value.0 c.requires.carry_value.1 c.loop-g.invariant c.loop-g-test.true _ _ _ wrote.ensures.0 wrote.ensures.1 c.pass-track.ensures
+loop-g-preserved c = writing_more _ _ _ _ _ _ _ _ _ c.requires.container_len.0 c.requires.container_len.1 c.requires.msgstart_value c.requires.carry_value.0 c.requires.carry_value.1 c.loop-g.invariant c.loop-g-test.true _ _ _ c.write_ending-at.ensures.end c.write_ending-at.ensures.room c.pass-track.ensures
 
 pub shape_of-room : goal.shape_of-room
 shape_of-room c = c.loop-g.invariant.long

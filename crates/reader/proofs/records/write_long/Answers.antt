@@ -8,7 +8,7 @@ use borrow.Author.Rules.{rules}
 use Rattle.reader.proofs.records.write_long.Goals.{After-slice_known-2-1}
 use Rattle.reader.proofs.records.write_long.Goals as goal
 
-written : (c : After-slice_known-2-1) → Written c.args.room.now c.args.at c.args.track.size (gathered_message (format_of c.args.format) c.args.container.now c.args.carry.now c.args.track (c.args.g + 1)) c.gather_message.new.1.1.1.1.1.0
+written : (c : After-slice_known-2-1) → Written c.args.room.now c.args.at c.args.track.size (gathered_message (format_of c.args.format) c.args.container.now c.args.carry.now c.args.track (c.args.g + 1)) c.gather_message.new.out
 written c =
     record_written c.args.room.now c.args.at c.args.track.size (gathered_message (format_of c.args.format) c.args.container.now c.args.carry.now c.args.track (c.args.g + 1)) _ c.requires.size_value.0 (omega arith) c.requires.size_in_bounds c.gather_message.ensures
 

@@ -8,7 +8,7 @@ use borrow.Author.Rules.{rules}
 use Rattle.reader.proofs.records.write_short.Goals.{After-slice_known-2-1}
 use Rattle.reader.proofs.records.write_short.Goals as goal
 
-written : (c : After-slice_known-2-1) → Written c.args.room.now c.args.at (length c.args.message.now) c.args.message.now c.copy_into.new.0
+written : (c : After-slice_known-2-1) → Written c.args.room.now c.args.at (length c.args.message.now) c.args.message.now c.copy_into.new.out
 written c =
     let size = length c.args.message.now in
     record_written c.args.room.now c.args.at size c.args.message.now _ refl (omega arith) c.requires.1

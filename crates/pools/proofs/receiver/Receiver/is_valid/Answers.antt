@@ -33,9 +33,9 @@ loop-pool-smaller c = omega arith
 
 pub loop-pool-preserved : goal.loop-pool-preserved
 loop-pool-preserved c = let self = c.args.self in (
-      omega arith,
-      tests_go_on (capacity_tests self) c.loop-pool.pool c.loop-pool-test.true c.loop-pool.invariant.1 c.keeps_capacity.ensures (ap not c.if-not-keeps_capacity.false),
-    )
+  omega arith,
+  tests_go_on (capacity_tests self) c.loop-pool.pool c.loop-pool-test.true c.loop-pool.invariant.1 c.keeps_capacity.ensures (ap not c.if-not-keeps_capacity.false),
+)
 
 pub returns : goal.returns
 returns c = let self = c.args.self in

@@ -17,7 +17,10 @@ gather_carry-next-requires c = let s = c.args.self in
     let valid = c.requires.self_value.0 in
     let long = c.requires.self_value.1 in
     let reached = c.requires.track_value in
-    rw (carry_part s.carry) ((long, next_kept s b valid long t reached), (next_from s b valid long t reached, next_going s b valid long t reached c.requires.pass))
+    record {
+      container_len = rw (carry_part s.carry) (long, next_kept s b valid long t reached);
+      from_bound = rw (carry_part s.carry) (next_from s b valid long t reached, next_going s b valid long t reached c.requires.pass);
+    }
 
 pub returns : goal.returns
 returns c = let s = c.args.self in

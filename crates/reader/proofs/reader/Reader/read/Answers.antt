@@ -49,7 +49,6 @@ pub returns-in-Accepted : goal.returns-in-Accepted
 returns-in-Accepted c = let s = c.args.self in
     let b = c.args.container.now in
     let room = c.args.room.now in
-    let wrote = (c.write_endings-written.ensures.end, c.write_endings-written.ensures.room) in
     let v = accepted_entry s (length b) (sym c.check_entry-entry.ensures ∙ c.in_default.is) in
     let a = judged_accepted s b c.judge_valid-judged.result c.judge_valid-judged.ensures _ _ c.in-Accepted.is in
-    let e = read_roomy s b (length room) v.0 v.1 c.if-room-lt-ROOM.false ∙ a.0 in record { step = read_done s b (length room) e _ a.3 _ (wrote.0 ∙ ap length (records_part s b)) _ a.1; room = wrote.1 ∙ ap (λ (x : List ℕ). put 0 x room) (records_part s b) ∙ room_done s b room e }
+    let e = read_roomy s b (length room) v.0 v.1 c.if-room-lt-ROOM.false ∙ a.0 in record { step = read_done s b (length room) e _ a.3 _ (c.write_endings-written.ensures.end ∙ ap length (records_part s b)) _ a.1; room = c.write_endings-written.ensures.room ∙ ap (λ (x : List ℕ). put 0 x room) (records_part s b) ∙ room_done s b room e }
