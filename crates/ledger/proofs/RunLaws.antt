@@ -118,7 +118,7 @@ module _ (first : Ledger) (limit : ℕ) (l : List ℕ) (s : Ledger) (n at : ℕ)
       pub running_more : t.answer ≡ Accepted → Running first limit l t.ledger (n + 1) (at + (u + 256))
       running_more h =
           let a = answered Accepted h in
-          let w = entry-within.1 in
+          let w = entry_within.1 in
           record {
             few = omega arith;
             inside = omega arith;

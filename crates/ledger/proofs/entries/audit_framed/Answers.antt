@@ -1,0 +1,107 @@
+use Prim.Native.Nat.{ℕ, ◌+◌, ◌-◌, ◌≤◌, ◌<◌}
+use mathlib.Core.Path.{◌≡◌, refl, ap, subst, ◌∙◌}
+use mathlib.Core.List.{List}
+use mathlib.Core.Logic.{⊎_elim}
+use native.Mathlib.Omega.{arith}
+use lib.ListN.{length, drop}
+use borrow.Author.Rules.{rules}
+use borrow.Author.Tests.{not-false}
+use Rattle.lists.proofs.PartLaws.{rest_is}
+use Rattle.frame.specs.Framing.{framing}
+use Rattle.frame.specs.declared.Framed.TheVariants.{Whole}
+use Rattle.ledger.specs.Audit.{unchanged}
+use Rattle.ledger.specs.Run.{halted}
+use Rattle.ledger.specs.declared.ledger.Ledger.{Ledger}
+use Rattle.ledger.specs.declared.ledger.Step.{Step}
+use Rattle.ledger.proofs.RunLaws.{step_at, Running, running_none, running_full, running_ends, entry_within, entry_direction, running_refused, running_back, running_more, framed_here, entry_is, entry_long}
+use Rattle.cause.specs.declared.Verdict.{Verdict}
+use Rattle.cause.specs.declared.Verdict.TheVariants.{Accepted, Refused}
+use Rattle.ledger.proofs.entries.audit_framed.Goals.{In-Whole, then-not-is_entry_idle+in_default-answer, else-not-is_entry_idle}
+use Rattle.ledger.proofs.entries.audit_framed.Goals as goal
+
+-- ---- a whole entry is at hand
+
+abbrev bytes : In-Whole → List ℕ
+bytes c = c.args.bytes.now
+
+abbrev here : In-Whole → ℕ
+here c = c.loop-count.at
+
+abbrev side : In-Whole → ℕ
+side c = c.in-Whole.direction
+
+abbrev width : In-Whole → ℕ
+width c = c.in-Whole.start
+
+whole : (c : In-Whole) → framing (drop (here c) (bytes c)) ≡ Whole c.in-Whole.number (side c) (width c)
+whole c = framed_here (bytes c) (here c) c.frame_entry-framed.ensures c.in-Whole.is
+
+room : (c : In-Whole) → (width c ≤ 5) × (here c + width c + 256 ≤ length (bytes c))
+room c = entry_within _ _ _ _ _ _ c.loop-count.invariant c.loop-count-test.true _ _ _ (whole c)
+
+either : (c : In-Whole) → side c < 2
+either c = entry_direction _ _ _ _ _ _ c.loop-count.invariant c.loop-count-test.true _ _ _ (whole c)
+
+-- an accepted entry leads to the next
+
+gone-on : (c : In-Whole) (t : Step) {s : Ledger} → t ≡ step_at c.loop-count.state (here c) (bytes c) (side c) (width c) → t.answer ≡ Accepted → s ≡ t.ledger
+    → Running c.args.ledger c.args.limit (bytes c) s (c.loop-count.count + 1) (here c + width c + 256)
+gone-on c t q a e =
+    let same : here c + (width c + 256) ≡ here c + width c + 256 = omega arith in
+    rw e (subst (Running c.args.ledger c.args.limit (bytes c) t.ledger (c.loop-count.count + 1)) same
+    (running_more _ _ _ _ _ _ c.loop-count.invariant c.loop-count-test.true _ _ _ (whole c) t q a))
+
+pub loop-count-init : goal.loop-count-init
+loop-count-init c = running_none c.args.ledger c.args.limit c.args.bytes.now c.requires
+
+pub slice_bounds-frame_entry-count : goal.slice_bounds-frame_entry-count
+slice_bounds-frame_entry-count c = c.loop-count.invariant.inside
+
+pub returns-in_default : goal.returns-in_default
+returns-in_default c = let l = c.args.bytes.now in
+    c.stop_run.ensures
+    ∙ running_ends _ _ _ _ _ _ c.loop-count.invariant
+    (λ v d u e.
+    let q = c.frame_entry-framed.ensures ∙ ap framing (rest_is l c.loop-count.at) ∙ e in
+    c.in_default.not-Whole v d u q)
+
+pub overflow_add-begin : goal.overflow_add-begin
+overflow_add-begin c = let r = (room (goal.at.overflow_add-begin c).In-Whole).1 in search rules
+
+pub overflow_add-end : goal.overflow_add-end
+overflow_add-end c = let r = (room (goal.at.overflow_add-end c).In-Whole).1 in search rules
+
+pub slice_bounds-is_entry_idle-end : goal.slice_bounds-is_entry_idle-end
+slice_bounds-is_entry_idle-end c = (room (goal.at.slice_bounds-is_entry_idle-end c).In-Whole).1
+
+pub is_entry_idle-requires : goal.is_entry_idle-requires
+is_entry_idle-requires c = (either (goal.at.is_entry_idle-requires c).In-Whole, c.loop-count.invariant.kept, entry_long (bytes (goal.at.is_entry_idle-requires c).In-Whole) (here (goal.at.is_entry_idle-requires c).In-Whole + width (goal.at.is_entry_idle-requires c).In-Whole) (room (goal.at.is_entry_idle-requires c).In-Whole).1)
+
+pub slice_bounds-audit_contents-end : goal.slice_bounds-audit_contents-end
+slice_bounds-audit_contents-end c = (room (goal.at.slice_bounds-audit_contents-end c).In-Whole).1
+
+pub audit_contents-step-requires : goal.audit_contents-step-requires
+audit_contents-step-requires c = (either (goal.at.audit_contents-step-requires c).In-Whole, c.loop-count.invariant.kept, entry_long (bytes (goal.at.audit_contents-step-requires c).In-Whole) (here (goal.at.audit_contents-step-requires c).In-Whole + width (goal.at.audit_contents-step-requires c).In-Whole) (room (goal.at.audit_contents-step-requires c).In-Whole).1)
+
+pub returns-in-Refused : goal.returns-in-Refused
+returns-in-Refused c = let told = c.in-Refused.is in
+    let more = c.loop-count-test.true in
+    let step = entry_is c.loop-count.state (bytes (goal.at.returns-in-Refused c).In-Whole) (here (goal.at.returns-in-Refused c).In-Whole) (side (goal.at.returns-in-Refused c).In-Whole) (width (goal.at.returns-in-Refused c).In-Whole) c.audit_contents-step.ensures in
+    c.stop_run-in-Refused.ensures
+    ∙ ap (λ (a : Verdict). halted c.audit_contents-step.result.ledger c.loop-count.count c.loop-count.at a) told
+    ∙ ap (λ (s : Ledger). halted s c.loop-count.count c.loop-count.at (Refused c.in-Refused.field-0 c.in-Refused.field-1))
+    (running_back _ _ _ _ _ _ c.loop-count.invariant more _ _ _ (whole (goal.at.returns-in-Refused c).In-Whole) c.audit_contents-step.result step _ _ told)
+    ∙ running_refused _ _ _ _ _ _ c.loop-count.invariant more _ _ _ (whole (goal.at.returns-in-Refused c).In-Whole) c.audit_contents-step.result step _ _ told
+
+pub loop-count-smaller : goal.loop-count-smaller
+loop-count-smaller c = omega arith
+
+pub loop-count-preserved : goal.loop-count-preserved
+loop-count-preserved c = let s = c.loop-count.state in
+    elim c.if-not-is_entry_idle.branch [
+      | then-not-is_entry_idle+in_default-answer w ↦ gone-on (goal.at.loop-count-preserved c).In-Whole w.audit_contents-step.result (entry_is s (bytes (goal.at.loop-count-preserved c).In-Whole) (here (goal.at.loop-count-preserved c).In-Whole) (side (goal.at.loop-count-preserved c).In-Whole) (width (goal.at.loop-count-preserved c).In-Whole) w.audit_contents-step.ensures) w.in_default-answer.is w.state-is
+      | else-not-is_entry_idle w ↦ gone-on (goal.at.loop-count-preserved c).In-Whole (unchanged s) (entry_is s (bytes (goal.at.loop-count-preserved c).In-Whole) (here (goal.at.loop-count-preserved c).In-Whole) (side (goal.at.loop-count-preserved c).In-Whole) (width (goal.at.loop-count-preserved c).In-Whole) (c.is_entry_idle.ensures.self_value w.if-not-is_entry_idle.false)) refl w.state-is
+    ]
+
+pub returns : goal.returns
+returns c = c.stop_run-2.ensures ∙ running_full _ _ _ _ _ _ c.loop-count.invariant c.loop-count-test.false
