@@ -1,10 +1,6 @@
 use Prim.Native.Nat.{◌-◌}
-use mathlib.Core.Path.{sym, ◌∙◌}
-use native.Mathlib.Omega.{arith}
-use borrow.Author.Rules.{rules}
 use Rattle.container.specs.Layout.{format_of}
-use Rattle.writer.proofs.SaneLaws.{sane_at}
-use Rattle.writer.proofs.LaidLaws.{Laid, laid_none, laid_more, laid_all}
+use Rattle.writer.proofs.LaidLaws.{Laid}
 use Rattle.writer.proofs.cursor.fill_granules.Given as goal
 
 abbrev pub invariant-loop-g : goal.invariant-loop-g

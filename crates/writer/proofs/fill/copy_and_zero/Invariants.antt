@@ -1,9 +1,6 @@
 use Prim.Native.Nat.{◌-◌}
-use mathlib.Core.Path.{sym, ◌∙◌}
-use native.Mathlib.Omega.{arith}
 use Rattle.lists.specs.Parts.{pad}
-use Rattle.lists.proofs.PartLaws.{length_pad, get_d_pad}
-use Rattle.lists.proofs.Fill.{Copied, copied_none, copied_more, copied_all}
+use Rattle.lists.proofs.Fill.{Copied}
 use Rattle.writer.proofs.fill.copy_and_zero.Given as goal
 
 abbrev pub invariant-loop-i : goal.invariant-loop-i

@@ -1,9 +1,7 @@
 use Prim.Native.Nat.{◌-◌}
-use native.Mathlib.Omega.{arith}
 use Rattle.container.specs.Layout.{format_of}
-use Rattle.container.proofs.Formats.{lawful_of}
 use Rattle.writer.specs.Laying.{header_bytes}
-use Rattle.writer.proofs.HeaderLaws.{Headed, headed_none, headed_more, headed_all}
+use Rattle.writer.proofs.HeaderLaws.{Headed}
 use Rattle.writer.proofs.fill.write_header.Given as goal
 
 abbrev pub invariant-loop-i : goal.invariant-loop-i

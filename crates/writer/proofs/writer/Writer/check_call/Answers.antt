@@ -1,7 +1,5 @@
 use mathlib.Core.Path.{sym, ◌∙◌}
-use borrow.Author.Tests.{not-true, not-false}
 use Rattle.writer.proofs.StateCases.{call_invalid, call_length, call_long, call_grant, call_accepted}
-use borrow.Author.Rules.{rules}
 use Rattle.writer.proofs.writer.Writer.check_call.Goals as goal
 
 pub returns-then-not-is_valid : goal.returns-then-not-is_valid

@@ -1,5 +1,4 @@
 use Rattle.writer.proofs.StateCases.{fill_checks_refused, fill_list}
-use borrow.Author.Rules.{rules}
 use Rattle.writer.proofs.writer.Writer.check_fill.Goals as goal
 
 pub returns-in-Refused : goal.returns-in-Refused

@@ -1,5 +1,0 @@
-use borrow.Author.Rules.{rules}
-use Rattle.writer.proofs.cursor.Cursor.advance.Goals as goal
-
-pub returns : goal.returns
-returns c = rw c.add.ensures
