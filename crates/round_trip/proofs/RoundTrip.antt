@@ -36,7 +36,6 @@ use Rattle.writer.specs.Laying.{filled, owes_after, used_of}
 use Rattle.writer.specs.Filling.{tail_of, writer_with, call_checks, fill_fault, filling, fill_bytes}
 use Rattle.round_trip.specs.Calls.{Fills, Reads, under_way}
 use Rattle.writer.specs.declared.writer.Writer.{Writer}
-use Rattle.writer.specs.declared.writer.Answer.TheVariants as answer
 use Rattle.writer.proofs.OtherOrder.{OtherOrder, unchanged, other_order_on}
 use Rattle.writer.proofs.Simulation.{Link, idle, busy, begun, message_most, size_m, start_head, legal_placed, Left, is_next, beneath_legal, give_next, give_not, give_none, give_on, give_beneath, give_over, give_last, step_followed}
 use Rattle.writer.proofs.Run.{Written, Ran, plan_followed, cells_shown}
