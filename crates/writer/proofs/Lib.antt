@@ -4,6 +4,7 @@ pub mod Run
 pub mod GroupLaws
 pub mod Groups
 pub mod Container
+pub mod Widening
 pub mod OneWayLaws
 pub mod LegalLaws
 pub mod HeaderLaws

@@ -12,7 +12,6 @@ use lib.Seq.{take-suc, drop-append-le, length-take-le, drop-cons}
 use lib.Dec.{eqb}
 use borrow.Author.Tests.{eq-eqb, ne_eqb, eqb-true, eqb-false}
 use Rattle.lists.proofs.Tests.{cases, and_false}
-use Rattle.lists.proofs.Order.{lt_or_le}
 use Rattle.container.specs.Layout.{Format, wide}
 use Rattle.container.specs.Grants.{no_counts}
 use Rattle.container.specs.declared.grant.Grant.{Grant}
@@ -26,35 +25,11 @@ use Rattle.writer.specs.Plan.{empty_cell, start_cell, on_cell, Cursor, Given, no
 use Rattle.writer.specs.Laying.{used_of, owes_after}
 use Rattle.writer.specs.OneWay.{cell_of, group_at, may_start, may_lie, NoneLegal, Empties, Way, goes_on, puts_beneath, passes_over, starts, stops, ends}
 use Rattle.writer.proofs.PlanLaws.{cursor_last_more, plan_length}
+use Rattle.writer.proofs.Widening.{widen}
 
 module _ (fm : Format) (n : Grant) (l : List ℕ) (es : List Cell) (used : ℕ) (owes : List ℕ) where
   abbrev From : ℕ → List ℕ → ℕ → Type 0
   From = Way fm n l es used owes
-
-  -- one more granule that stays empty
-  widen_empties : (g h : ℕ) → cell_of es g ≡ empty_cell (fm.size g) → Empties fm es (g + 1) h → Empties fm es g h
-  widen_empties g h e p j a b = ⊎_elim (λ (x : g < j). p j (omega arith) b) (λ (x : j ≤ g). let q : j ≡ g = omega arith in rw q e) (lt_or_le g j)
-
-  widen_none : (g h : ℕ) (m : List ℕ) → may_start fm n es g m ≡ false → NoneLegal fm n es (g + 1) h m → NoneLegal fm n es g h m
-  widen_none g h m e p j a b = ⊎_elim (λ (x : g < j). p j (omega arith) b) (λ (x : j ≤ g). let q : j ≡ g = omega arith in rw q e) (lt_or_le g j)
-
-  widen : {g' at : ℕ} {t : List ℕ} (g : ℕ) → g' ≡ g + 1 → g < 12 → length t ≡ 0 → cell_of es g ≡ empty_cell (fm.size g)
-      → ((start end : ℕ) → first_of (drop at l) ≡ Whole start end → may_start fm n es g (message_of (drop at l) start end) ≡ false) → From g' t at → From g t at
-  widen g e b z c here (goes_on a p w d r) = absurd (omega arith)
-  widen g e b z c here (puts_beneath s f a p w q may d r) = absurd (omega arith)
-  widen g e b z c here (passes_over a p w none d r) = absurd (omega arith)
-  widen {at = at} g e b z c here (starts h s f a d z' q may none empty cell r) =
-      starts {g = g} h s f (omega arith) d z q may
-      (widen_none g h (message_of (drop at l) s f) (here s f q) (subst (λ (i : ℕ). NoneLegal fm n es i h (message_of (drop at l) s f)) e none))
-      (widen_empties g h c (subst (λ (i : ℕ). Empties fm es i h) e empty)) cell r
-  widen {at = at} g e b z c here (stops a z' none empty u o) =
-      stops {g = g} (omega arith) z
-      (λ s f q. widen_none g 12 (message_of (drop at l) s f) (here s f q) (subst (λ (i : ℕ). NoneLegal fm n es i 12 (message_of (drop at l) s f)) e (none s f q)))
-      (widen_empties g 12 c (subst (λ (i : ℕ). Empties fm es i 12) e empty)) u o
-  widen {at = at} g e b z c here (ends a u o) =
-      let last : (j : ℕ) → g + 1 ≤ j → j < 12 → ⊥ = λ j x y. omega arith in
-      stops {g = g} (omega arith) z (λ s f q. widen_none g 12 (message_of (drop at l) s f) (here s f q) (λ j x y. absurd (last j x y)))
-      (widen_empties g 12 c (λ j x y. absurd (last j x y))) u o
 
   -- one granule of the machine is one of the way
   step_way : (g at : ℕ) (t : List ℕ) → g < 12 → cell_of es g ≡ (give fm n l g (record { owes = t; at = at; group = group_at es g })).cell
@@ -92,13 +67,13 @@ module _ (fm : Format) (n : Grant) (l : List ℕ) (es : List Cell) (used : ℕ) 
               → cell_of es g ≡ (start_next fm l g w (may_start fm n es g) (λ m. drop (fm.size g) m) x).cell
               → From (g + 1) (start_next fm l g w (may_start fm n es g) (λ m. drop (fm.size g) m) x).owes (start_next fm l g w (may_start fm n es g) (λ m. drop (fm.size g) m) x).at
               → From g t at
-          by Empty q c r = widen g refl b z c (λ s f k. let y : ◌≡◌ {A = ℕ} 0 1 = cc in absurd (omega arith)) r
-          by Bad q c r = widen g refl b z c (λ s f k. let y : ◌≡◌ {A = ℕ} 0 1 = cc in absurd (omega arith)) r
+          by Empty q c r = widen fm n l es used owes g refl b z c (λ s f k. let y : ◌≡◌ {A = ℕ} 0 1 = cc in absurd (omega arith)) r
+          by Bad q c r = widen fm n l es used owes g refl b z c (λ s f k. let y : ◌≡◌ {A = ℕ} 0 1 = cc in absurd (omega arith)) r
           by (Whole s f) q c r =
               ⊎_elim (λ (y : may_start fm n es g (message_of (drop at l) s f) ≡ true).
               starts {g = g} g s f (omega arith) b z q y (λ j u v. absurd (omega arith)) (λ j u v. absurd (omega arith)) (rw y at c) (rw y at r))
               (λ (y : may_start fm n es g (message_of (drop at l) s f) ≡ false).
-              widen g refl b z (rw y at c) (λ s' f' k. let es' : s ≡ s' = cc in let ef : f ≡ f' = cc in rw (← es', ← ef) y) (rw y at r))
+              widen fm n l es used owes g refl b z (rw y at c) (λ s' f' k. let es' : s ≡ s' = cc in let ef : f ≡ f' = cc in rw (← es', ← ef) y) (rw y at r))
               (cases (may_start fm n es g (message_of (drop at l) s f)))
 
 -- where the next message may not start, the granule stays empty
