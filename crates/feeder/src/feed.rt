@@ -87,6 +87,7 @@ impl Feed {
     }
 
     // The verdict on state and lengths: causes 19 and 18.
+    #[tactic(auto, using(crate::proofs::StepCases::call_invalid, crate::proofs::StepCases::call_responses, crate::proofs::StepCases::call_others, crate::proofs::StepCases::call_accepted))]
     fn check_call(self, format: u32, responses: usize, others: usize) -> Verdict
         ensures { result ≡ first_fault (call_checks format responses others self) }
     {
