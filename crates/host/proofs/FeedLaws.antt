@@ -188,13 +188,13 @@ module _ (f : ℕ) (n R O room : List ℕ) (v : Verdict) (ev : v ≡ first_fault
       moves_over = rw et (step_moves f R O s (feed_valid f R O s (rw es passes.1)))
 
       pub moves : Moves R O s t.feed
-      moves = moves-over.0
+      moves = moves_over.0
 
       pub moved_fits : length (moved_over R O s t.feed) ≤ length room
-      moved_fits = let a = ap length moves-over.1 in let b = part_short f R O s in let c = passes.2 in omega arith
+      moved_fits = let a = ap length moves_over.1 in let b = part_short f R O s in let c = passes.2 in omega arith
 
       pub answer_small : (x : ℕ) → x ≡ length (moved_over R O s t.feed) → Small t.answer x
-      answer_small x ex = rw (ex ∙ ap length (sym moves-over.1)) (rw et (by (feeding f R O s).answer refl))
+      answer_small x ex = rw (ex ∙ ap length (sym moves_over.1)) (rw et (by (feeding f R O s).answer refl))
         where
           by : (a : Answer) → (feeding f R O s).answer ≡ a → Small a (length (fed_part f R O s))
           by (ask.Handed w) k = let h = part_short f R O s in omega arith
@@ -204,7 +204,7 @@ module _ (f : ℕ) (n R O room : List ℕ) (v : Verdict) (ev : v ≡ first_fault
       pub accepted_zero_code : (x y : ℕ) → x ≡ length (moved_over R O s t.feed) → y ≡ answer_code t.answer x → y ≡ feed_code f n R O (length room)
       unfolding feed_code
       accepted_zero_code x y ex ey =
-          let ep : x ≡ length (fed_part f R O s) = ex ∙ ap length (sym moves-over.1) in
+          let ep : x ≡ length (fed_part f R O s) = ex ∙ ap length (sym moves_over.1) in
           ey ∙ rw (← ev, e, et, ep, es)
 
       pub accepted_numbers : (m : List ℕ) → m ≡ numbers_of t.feed → m ≡ feed_numbers f n R O (length room)
@@ -214,7 +214,7 @@ module _ (f : ℕ) (n R O room : List ℕ) (v : Verdict) (ev : v ≡ first_fault
       pub accepted_room : (d : List ℕ) → d ≡ put 0 (moved_over R O s t.feed) room → d ≡ feed_room f n R O room
       unfolding feed_room
       accepted_room d ed =
-          let ep : d ≡ put 0 (fed_part f R O s) room = ed ∙ ap (λ (x : List ℕ). put 0 x room) (sym moves-over.1) in
+          let ep : d ≡ put 0 (fed_part f R O s) room = ed ∙ ap (λ (x : List ℕ). put 0 x room) (sym moves_over.1) in
           ep ∙ rw (← ev, e, es)
 
 -- ---- what a code tells, and that a refusal changes nothing
