@@ -163,24 +163,21 @@ fn tell_cause(run: Run) -> u32
 }
 
 // Audits entries from a fresh ledger: 0, or the cause of the first refusal.
-#[unsafe(no_mangle)]
-pub extern "C" fn c2c_audit(numbers: &[u32], entries: &[u8]) -> u32
+pub fn c2c_audit(numbers: &[u32], entries: &[u8]) -> u32
     ensures { result ≡ cause_of (run_from numbers.now entries.now).answer }
 {
     tell_cause(run_entries(numbers, entries))
 }
 
 // The same by a call of the audit an entry.
-#[unsafe(no_mangle)]
-pub extern "C" fn c2c_audit_each(numbers: &[u32], entries: &[u8]) -> u32
+pub fn c2c_audit_each(numbers: &[u32], entries: &[u8]) -> u32
     ensures { result ≡ cause_of (run_from numbers.now entries.now).answer }
 {
     tell_cause(run_calls(numbers, entries))
 }
 
 // The place of the first refusal, 0 where there is none.
-#[unsafe(no_mangle)]
-pub extern "C" fn c2c_audit_place(numbers: &[u32], entries: &[u8]) -> u64
+pub fn c2c_audit_place(numbers: &[u32], entries: &[u8]) -> u64
     ensures { result ≡ place_of (run_from numbers.now entries.now).answer }
 {
     let run = run_entries(numbers, entries);
@@ -192,8 +189,7 @@ pub extern "C" fn c2c_audit_place(numbers: &[u32], entries: &[u8]) -> u64
 }
 
 // How many entries are accepted before the first refusal.
-#[unsafe(no_mangle)]
-pub extern "C" fn c2c_audit_count(numbers: &[u32], entries: &[u8]) -> usize
+pub fn c2c_audit_count(numbers: &[u32], entries: &[u8]) -> usize
     ensures { result ≡ (run_from numbers.now entries.now).accepted }
 {
     let run = run_entries(numbers, entries);
@@ -201,8 +197,7 @@ pub extern "C" fn c2c_audit_count(numbers: &[u32], entries: &[u8]) -> usize
 }
 
 // How many bytes the accepted entries have.
-#[unsafe(no_mangle)]
-pub extern "C" fn c2c_audit_used(numbers: &[u32], entries: &[u8]) -> usize
+pub fn c2c_audit_used(numbers: &[u32], entries: &[u8]) -> usize
     ensures { result ≡ (run_from numbers.now entries.now).used }
 {
     let run = run_entries(numbers, entries);
@@ -229,13 +224,7 @@ fn report_entries(numbers: &[u32], entries: &[u8], direction: u32, pool: u32) ->
 }
 
 // Credits held · 2^32 + messages open behind the entries, of one direction and pool, or cause · 2^48.
-#[unsafe(no_mangle)]
-pub extern "C" fn c2c_audit_report(
-    numbers: &[u32],
-    entries: &[u8],
-    direction: u32,
-    pool: u32,
-) -> u64
+pub fn c2c_audit_report(numbers: &[u32], entries: &[u8], direction: u32, pool: u32) -> u64
     ensures { result ≡ report_number (report_from numbers.now entries.now direction pool) }
 {
     let reported = report_entries(numbers, entries, direction, pool);

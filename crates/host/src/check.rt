@@ -6,8 +6,7 @@ use cause::number_cause;
 use reader::{Answer, Reader};
 
 // Checks one container from a fresh state: 0, or cause · 65,536 + place; the room ends as the reader leaves it.
-#[unsafe(no_mangle)]
-pub extern "C" fn c2c_check(format: u32, container: &[u8], room: &mut [u8]) -> u32
+pub fn c2c_check(format: u32, container: &[u8], room: &mut [u8]) -> u32
     ensures code { result ≡ check_code format container.now (length room.old) }
     ensures room { room.new ≡ check_room format container.now room.old }
 {

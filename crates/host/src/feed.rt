@@ -102,8 +102,7 @@ fn encode_answer(answer: Answer, bytes: usize) -> u32
 }
 
 // Asks for the next record of two waiting lists: cause · 16,777,216 + list · 65,536 + the record's bytes or the place.
-#[unsafe(no_mangle)]
-pub extern "C" fn c2c_feed(
+pub fn c2c_feed(
     format: u32,
     feed: &mut [u32],
     responses: &[u8],

@@ -18,13 +18,13 @@ use Rattle.input.specs.declared.Refill.TheVariants.{Got, End, Failed, Full}
 abbrev pub behind : ℕ → Refill → Refill
 behind k (Got n) = Got (k + n)
 behind k End = End
-behind k Failed = Failed
+behind k (Failed e) = Failed e
 behind k Full = Full
 
 hand_behind : (k l : ℕ) (a : Refill) → k ≤ l → AtHand 0 (l - k) a → AtHand k l (behind k a)
 hand_behind k l (Got n) h g = (omega (arith, g.0), omega (arith, g.1))
 hand_behind k l End h g = omega arith
-hand_behind k l Failed h g = omega arith
+hand_behind k l (Failed e) h g = omega arith
 hand_behind k l Full h g = omega arith
 
 -- k is how many bytes of l are kept, `front` is l with them at its front, and d what then stands behind them

@@ -15,8 +15,7 @@ use slices::{byte_at, copy_into};
 use writer::{Answer, Writer};
 
 // Judges one container from a fresh state, without room: 0, or cause · 65,536 + place.
-#[unsafe(no_mangle)]
-pub extern "C" fn c2c_judge(format: u32, container: &[u8]) -> u32
+pub fn c2c_judge(format: u32, container: &[u8]) -> u32
     ensures { result ≡ judge_code format container.now }
 {
     let created = Reader::fresh(format);
@@ -68,8 +67,7 @@ fn encode_answer(answer: Answer, len: usize) -> u64
 }
 
 // Fills a container: bytes used · 256 + the tail's new length, or cause · 4,294,967,296 + place; `tail` holds the tail before and after.
-#[unsafe(no_mangle)]
-pub extern "C" fn c2c_fill(
+pub fn c2c_fill(
     format: u32,
     len: usize,
     tail: &mut [u8],
@@ -123,8 +121,7 @@ fn ask<'a>(
 }
 
 // The bytes of that part.
-#[unsafe(no_mangle)]
-pub extern "C" fn c2c_part_length<'a>(
+pub fn c2c_part_length<'a>(
     format: u32,
     response: usize,
     other: usize,
@@ -138,8 +135,7 @@ pub extern "C" fn c2c_part_length<'a>(
 }
 
 // Byte i of that part, 0 behind its end.
-#[unsafe(no_mangle)]
-pub extern "C" fn c2c_part_byte<'a>(
+pub fn c2c_part_byte<'a>(
     i: usize,
     format: u32,
     response: usize,

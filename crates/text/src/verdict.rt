@@ -4,6 +4,7 @@ ghost use Rattle.lists.specs.Parts.{put};
 ghost use Rattle.text.specs.Lines.{spaced, fault_words, verdict_line, refusal_line, answer_of, room_of};
 
 use cause::{Cause, Verdict, number_cause};
+use slices::copy_into;
 
 // The least room for a line.
 const MIN_ROOM: usize = 64;
@@ -17,7 +18,8 @@ fn write_word(word: &[u8], room: &mut [u8], at: usize) -> usize
     ensures end { result ≡ at + length word.now }
     ensures room { room.new ≡ put at word.now room.old }
 {
-    at + bytes::copy(word, &mut room[at..])
+    copy_into(room, at, word);
+    at + word.len()
 }
 
 // Writes a number behind a space at `at`, and answers the offset behind it.

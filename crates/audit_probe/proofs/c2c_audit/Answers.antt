@@ -1,7 +1,6 @@
 use mathlib.Core.Path.{ap, ◌∙◌}
 use Rattle.ledger.specs.declared.entries.Run.{Run}
 use Rattle.audit_probe.specs.Audit.{cause_of}
-use borrow.Author.Rules.{rules}
 use Rattle.audit_probe.proofs.c2c_audit.Goals as goal
 
 pub returns : goal.returns

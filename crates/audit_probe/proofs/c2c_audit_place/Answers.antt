@@ -1,7 +1,6 @@
 use mathlib.Core.Path.{sym, ap, ◌∙◌}
 use Rattle.ledger.specs.declared.entries.Run.{Run}
 use Rattle.audit_probe.specs.Audit.{place_of}
-use borrow.Author.Rules.{rules}
 use Rattle.audit_probe.proofs.c2c_audit_place.Goals as goal
 
 pub returns-in-Accepted : goal.returns-in-Accepted

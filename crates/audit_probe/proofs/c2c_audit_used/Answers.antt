@@ -1,6 +1,5 @@
 use mathlib.Core.Path.{ap}
 use Rattle.ledger.specs.declared.entries.Run.{Run}
-use borrow.Author.Rules.{rules}
 use Rattle.audit_probe.proofs.c2c_audit_used.Goals as goal
 
 pub returns : goal.returns

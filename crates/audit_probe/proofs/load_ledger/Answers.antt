@@ -1,5 +1,4 @@
 use Rattle.audit_probe.proofs.AuditLaws.{created_good, created_bad}
-use borrow.Author.Rules.{rules}
 use Rattle.audit_probe.proofs.load_ledger.Goals as goal
 
 pub returns-then-are_numbers : goal.returns-then-are_numbers

@@ -1,9 +1,8 @@
-use Prim.Native.Nat.{ℕ, ◌+◌, ◌-◌, ◌≤◌}
+use Prim.Native.Nat.{ℕ, ◌+◌}
 use mathlib.Core.Path.{◌≡◌, refl, sym, ◌∙◌}
 use native.Mathlib.Omega.{arith}
 use lib.ListN.{get_or, replicate}
-use borrow.Author.Rules.{rules}
-use Rattle.lists.proofs.Fill.{grown, grown_more, grown_all}
+use Rattle.lists.proofs.Fill.{grown_more, grown_all}
 use Rattle.pools.specs.Rows.{row}
 use Rattle.pools.proofs.RowLaws.{row_at, length_row}
 use Rattle.audit_probe.proofs.load_receiver.Goals as goal

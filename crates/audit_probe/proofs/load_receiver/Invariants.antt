@@ -1,11 +1,8 @@
-use Prim.Native.Nat.{ℕ, ◌+◌, ◌-◌, ◌≤◌}
-use mathlib.Core.Path.{◌≡◌, refl, sym, ◌∙◌}
-use native.Mathlib.Omega.{arith}
+use Prim.Native.Nat.{◌+◌, ◌-◌, ◌≤◌}
+use mathlib.Core.Path.{◌≡◌}
 use lib.ListN.{get_or, replicate}
-use borrow.Author.Rules.{rules}
-use Rattle.lists.proofs.Fill.{grown, grown_more, grown_all}
+use Rattle.lists.proofs.Fill.{grown}
 use Rattle.pools.specs.Rows.{row}
-use Rattle.pools.proofs.RowLaws.{row_at, length_row}
 use Rattle.audit_probe.proofs.load_receiver.Given as goal
 
 abbrev pub invariant-loop-p : goal.invariant-loop-p

@@ -1,6 +1,5 @@
 use mathlib.Core.Path.{◌∙◌}
 use Rattle.audit_probe.proofs.AuditLaws.{report_refused, report_accepted}
-use borrow.Author.Rules.{rules}
 use Rattle.audit_probe.proofs.report_entries.Goals as goal
 
 pub returns-in-Refused : goal.returns-in-Refused

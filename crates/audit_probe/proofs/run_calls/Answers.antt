@@ -1,6 +1,5 @@
 use mathlib.Core.Path.{◌∙◌}
 use Rattle.audit_probe.proofs.AuditLaws.{created_valid, run_refused, run_accepted}
-use borrow.Author.Rules.{rules}
 use Rattle.audit_probe.proofs.run_calls.Goals as goal
 
 pub run_each-requires : goal.run_each-requires

@@ -1,4 +1,3 @@
-use borrow.Author.Rules.{rules}
 use Rattle.audit_probe.proofs.tell_cause.Goals as goal
 
 pub returns-in-Refused : goal.returns-in-Refused

@@ -1,5 +1,4 @@
 use Rattle.host.proofs.FeedLaws.{verdict_small, refused_number, refused_numbers, refused_room, three, next_fits, moves, moved_fits, answer_small, accepted_zero_code, accepted_numbers, accepted_room}
-use borrow.Author.Rules.{rules}
 use Rattle.host.proofs.feed.c2c_feed.Goals as goal
 
 pub encode_answer-requires : goal.encode_answer-requires

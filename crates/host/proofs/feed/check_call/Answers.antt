@@ -1,6 +1,4 @@
 use mathlib.Core.Path.{◌∙◌}
-use borrow.Author.Rules.{rules}
-use borrow.Author.Tests.{not-true, not-false}
 use Rattle.host.proofs.FeedLaws.{is_ok, call_other, call_invalid, call_small, call_accepted}
 use Rattle.host.proofs.feed.check_call.Goals as goal
 

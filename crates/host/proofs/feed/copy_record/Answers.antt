@@ -1,6 +1,5 @@
 use Rattle.feeder.proofs.StepLaws.{moves_long}
 use Rattle.host.proofs.FeedLaws.{copied_both}
-use borrow.Author.Rules.{rules}
 use Rattle.host.proofs.feed.copy_record.Goals as goal
 
 pub returns : goal.returns

@@ -1,5 +1,4 @@
 use native.Mathlib.Omega.{arith}
-use borrow.Author.Rules.{rules}
 use Rattle.host.proofs.FeedLaws.{handed_small, refused_cause, refused_list, refused_low}
 use Rattle.host.proofs.feed.encode_answer.Goals as goal
 

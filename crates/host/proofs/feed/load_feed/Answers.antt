@@ -1,4 +1,3 @@
-use borrow.Author.Rules.{rules}
 use Rattle.host.proofs.feed.load_feed.Goals as goal
 
 pub returns : goal.returns

@@ -1,5 +1,4 @@
 use Rattle.host.proofs.FeedLaws.{three_set}
-use borrow.Author.Rules.{rules}
 use Rattle.host.proofs.feed.store_feed.Goals as goal
 
 pub returns : goal.returns
