@@ -17,7 +17,7 @@ use Rattle.history.specs.Trace.{whole, shorter}
 use Rattle.history.specs.Link.{Direction, direction0, direction1}
 use Rattle.history.specs.History.{state_after, Measure, total}
 use Rattle.history.specs.Delays.{Readable, Plain}
-use Rattle.history.proofs.DelayLaws.{delays}
+use Rattle.history.proofs.DelayTheorem.{delays}
 use Rattle.demands.specs.Marked.{no_grant}
 use Rattle.demands.specs.Delayed.{link, idle, one, two, three, Delayed}
 

@@ -4,7 +4,7 @@ use Rattle.reader.specs.Reading.{records}
 use Rattle.ledger.proofs.RunRuleLaws.{run_follows, run_only}
 use Rattle.logs.proofs.LogRuleLaws.{consume_follows, consume_only}
 use Rattle.feeder.proofs.RuleLaws.{follows, only}
-use Rattle.history.proofs.DelayLaws.{delays}
+use Rattle.history.proofs.DelayTheorem.{delays}
 use Rattle.demands.specs.Tap.{link_of}
 use Rattle.demands.specs.Demand1.{Demand1}
 use Rattle.demands.specs.Demand3.{Demand3}

@@ -15,20 +15,18 @@ use Rattle.feeder.specs.declared.found.Waiting.TheVariants.{Responses, Others, N
 use Rattle.feeder.specs.declared.feed.Feed.{Feed}
 use Rattle.feeder.specs.declared.feed.Answer.TheVariants.{Handed}
 use Rattle.feeder.specs.declared.feed.Step.{Step}
+use Rattle.feeder.proofs.DroppedParts.{same_part}
 use Rattle.feeder.proofs.RecordCases.{record_also}
 use Rattle.feeder.proofs.RuleLaws.{follows, only}
 
 -- ---- a record behind the bytes that are dropped
 
 module _ (w : Waiting) (l : List ℕ) (at a : ℕ) (h : a ≤ at) where
-  same_part : (n : ℕ) → part (at - a) n (drop a l) ≡ part at n l
-  same_part n = let e : a + (at - a) ≡ at = omega arith in ap (take n) (drop-drop (at - a) a l ∙ ap (λ (k : ℕ). drop k l) e)
-
   record_lowered : (p : List ℕ) → at < length l → RecordAt w l at p → RecordAt w (drop a l) (at - a) p
-  record_lowered p k r = let n = length-drop a l in let b = r.within in record_also r (omega arith) (same_part (length p))
+  record_lowered p k r = let n = length-drop a l in let b = r.within in record_also r (omega arith) (same_part l at a h (length p))
 
   record_raised : (p : List ℕ) → at < length l → RecordAt w (drop a l) (at - a) p → RecordAt w l at p
-  record_raised p k r = let n = length-drop a l in let b = r.within in record_also r (omega arith) (sym (same_part (length p)))
+  record_raised p k r = let n = length-drop a l in let b = r.within in record_also r (omega arith) (sym (same_part l at a h (length p)))
 
 -- ---- the rules
 

@@ -6,6 +6,7 @@ pub mod RecordCases
 pub mod RuleLaws
 pub mod TurnLaws
 pub mod FaultlessLaws
+pub mod DroppedParts
 pub mod DroppedLaws
 pub mod ServiceLaws
 pub mod FeedEdges

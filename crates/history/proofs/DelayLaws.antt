@@ -1,4 +1,4 @@
--- Delays are arbitrary: containers leave, pass and arrive, and slots are freed, as far as is asked, one after the other. Assumes nothing.
+-- Containers leave, pass and arrive, and slots are freed, as far as is asked, one after the other. Assumes nothing.
 use Prim.Native.Nat.{ℕ, zero, suc, ◌+◌, ◌-◌, ◌≤◌}
 use native.Mathlib.Omega.{arith}
 use native.Mathlib.Decide.{dec_le}
@@ -7,12 +7,12 @@ use Rattle.lists.specs.Pick.{pick}
 use Rattle.history.specs.Trace.{Trace, start, ◌▷◌, ◌⊑◌, whole, shorter}
 use Rattle.history.specs.Link.{Direction, direction0, direction1, opposite, same_direction, Link}
 use Rattle.history.specs.History.{Event, leaves, passes, arrives, frees, append_if, left, passed, arrived, freed, total, held_at_sender, History}
-use Rattle.history.specs.Delays.{UnderWay, Readable, Plain, Ahead, Delays}
+use Rattle.history.specs.Delays.{Readable}
 use Rattle.history.proofs.Order.{⊑_trans}
 use Rattle.history.proofs.AtOnce.{repeat, repeat_each, each_keeps, opposite_differs, freed_elsewhere, past_freed, each_freed, each_history, ungranted_opposite}
 
 -- what each direction has, with x for direction e
-abbrev set : {A : Type 0} → Direction → A → (Direction → A) → Direction → A
+abbrev pub set : {A : Type 0} → Direction → A → (Direction → A) → Direction → A
 set e x f d = pick (same_direction d e) x (f d)
 
 -- what direction e has, and what the directions have
@@ -32,7 +32,7 @@ set_same : {A : Type 0} (e : Direction) (x : A) (f : Direction → A) → f e �
 set_same e x f q = set_by (λ d y. f d ≡ y) e x f q refl
 
 -- what both directions have
-set_both : {A : Type 0} (f g : Direction → A) (d : Direction) → set direction1 (g direction1) (set direction0 (g direction0) f) d ≡ g d
+pub set_both : {A : Type 0} (f g : Direction → A) (d : Direction) → set direction1 (g direction1) (set direction0 (g direction0) f) d ≡ g d
 set_both f g direction0 = refl
 set_both f g direction1 = refl
 
@@ -45,7 +45,7 @@ set_append direction1 x c f direction0 y q = q
 set_append direction1 x c f direction1 y q = ap (λ z. z ▷ c) q
 
 -- every trace begins with the empty one
-start_first : {A : Type 0} (t : Trace A) → start ⊑ t
+pub start_first : {A : Type 0} (t : Trace A) → start ⊑ t
 start_first start = whole refl
 start_first (t ▷ x) = shorter (start_first t)
 
@@ -66,18 +66,18 @@ module _ (K : Link) (h : Trace (Event K.Container)) where
   open K use {Container, grants, begins, finishes, pools, capacity}
 
   -- behind h some history has come to l, p, a and f
-  record Comes (l p a : Direction → Trace Container) (f : Direction → ℕ → ℕ) : Type 0 where
-    now : Trace (Event Container)
-    behind : h ⊑ now
-    is_history : History K now
-    is_left : (d : Direction) → left d now ≡ l d
-    is_passed : (d : Direction) → passed d now ≡ p d
-    is_arrived : (d : Direction) → arrived d now ≡ a d
-    is_freed : (d : Direction) (q : ℕ) → freed d q now ≡ f d q
+  pub record Comes (l p a : Direction → Trace Container) (f : Direction → ℕ → ℕ) : Type 0 where
+    pub now : Trace (Event Container)
+    pub behind : h ⊑ now
+    pub is_history : History K now
+    pub is_left : (d : Direction) → left d now ≡ l d
+    pub is_passed : (d : Direction) → passed d now ≡ p d
+    pub is_arrived : (d : Direction) → arrived d now ≡ a d
+    pub is_freed : (d : Direction) (q : ℕ) → freed d q now ≡ f d q
 
   module _ (l p a : Direction → Trace Container) (f : Direction → ℕ → ℕ) (e : Direction) (s : Comes l p a f) where
     -- containers leave while nothing passes, arrives or is freed
-    leave_all : (x : Trace Container) → l e ⊑ x → Readable K e x → ((q : ℕ) → total K grants e x q ≤ capacity (opposite e) q + f (opposite e) q)
+    pub leave_all : (x : Trace Container) → l e ⊑ x → Readable K e x → ((q : ℕ) → total K grants e x q ≤ capacity (opposite e) q + f (opposite e) q)
         → ((q : ℕ) → total K begins e x q ≤ total K grants (opposite e) (a (opposite e)) q) → Comes (set e x l) p a f
     unfolding held_at_sender
     leave_all x (whole q) r slots credits = record {
@@ -110,7 +110,7 @@ module _ (K : Link) (h : Trace (Event K.Container)) where
         }
 
     -- containers pass
-    pass_all : (x : Trace Container) → p e ⊑ x → x ⊑ l e → Comes l (set e x p) a f
+    pub pass_all : (x : Trace Container) → p e ⊑ x → x ⊑ l e → Comes l (set e x p) a f
     pass_all x (whole q) b = record {
       now = s.now;
       behind = s.behind;
@@ -134,7 +134,7 @@ module _ (K : Link) (h : Trace (Event K.Container)) where
         }
 
     -- containers arrive
-    arrive_all : (x : Trace Container) → a e ⊑ x → x ⊑ p e → Comes l p (set e x a) f
+    pub arrive_all : (x : Trace Container) → a e ⊑ x → x ⊑ p e → Comes l p (set e x a) f
     arrive_all x (whole q) b = record {
       now = s.now;
       behind = s.behind;
@@ -158,7 +158,7 @@ module _ (K : Link) (h : Trace (Event K.Container)) where
         }
 
     -- slots are freed
-    free_all : (x : ℕ → ℕ) → ((q : ℕ) → f e q ≤ x q) → ((q : ℕ) → x q ≤ total K finishes e (a e) q) → ((q : ℕ) → pools ≤ q → x q ≡ f e q)
+    pub free_all : (x : ℕ → ℕ) → ((q : ℕ) → f e q ≤ x q) → ((q : ℕ) → x q ≤ total K finishes e (a e) q) → ((q : ℕ) → pools ≤ q → x q ≡ f e q)
         → Comes l p a (set e x f)
     free_all x more most of_pools = record {
       now = k;
@@ -187,72 +187,3 @@ module _ (K : Link) (h : Trace (Event K.Container)) where
         other q =
             each_keeps (freed (opposite e) q) (frees e) (λ r. freed_elsewhere (opposite e) e q r (λ d _. opposite_differs e d)) _ pools s.now
             ∙ s.is_freed (opposite e) q
-
-  -- each direction comes as far as it may behind h
-  module _ (v : History K h) (l p a : Direction → Trace Container) (f : Direction → ℕ → ℕ) (x : (d : Direction) → Ahead K h d (l d) (p d) (a d) (f d)) where
-    abbrev both : {A : Type 0} → (Direction → A) → (Direction → A) → Direction → A
-    both new old = set direction1 (new direction1) (set direction0 (new direction0) old)
-
-    at_first : Comes (λ d. left d h) (λ d. passed d h) (λ d. arrived d h) (λ d q. freed d q h)
-    at_first = record { now = h; behind = whole refl; is_history = v; is_left = λ d. refl; is_passed = λ d. refl; is_arrived = λ d. refl; is_freed = λ d q. refl }
-
-    leave_both : Comes (both l (λ d. left d h)) (λ d. passed d h) (λ d. arrived d h) (λ d q. freed d q h)
-    leave_both =
-        leave_all _ _ _ _ direction1
-        (leave_all _ _ _ _ direction0 at_first (l direction0) (x direction0).left_before (x direction0).readable (x direction0).slots (x direction0).credits)
-        (l direction1) (x direction1).left_before (x direction1).readable (x direction1).slots (x direction1).credits
-
-    pass_both : Comes (both l (λ d. left d h)) (both p (λ d. passed d h)) (λ d. arrived d h) (λ d q. freed d q h)
-    pass_both =
-        pass_all _ _ _ _ direction1
-        (pass_all _ _ _ _ direction0 leave_both (p direction0) (x direction0).passed_before (x direction0).passes_left)
-        (p direction1) (x direction1).passed_before (x direction1).passes_left
-
-    arrive_both : Comes (both l (λ d. left d h)) (both p (λ d. passed d h)) (both a (λ d. arrived d h)) (λ d q. freed d q h)
-    arrive_both =
-        arrive_all _ _ _ _ direction1
-        (arrive_all _ _ _ _ direction0 pass_both (a direction0) (x direction0).arrived_before (x direction0).arrives_passed)
-        (a direction1) (x direction1).arrived_before (x direction1).arrives_passed
-
-    free_both : Comes (both l (λ d. left d h)) (both p (λ d. passed d h)) (both a (λ d. arrived d h)) (both f (λ d q. freed d q h))
-    free_both =
-        free_all _ _ _ _ direction1
-        (free_all _ _ _ _ direction0 arrive_both (f direction0) (x direction0).freed_before (x direction0).messages (x direction0).of_pools)
-        (f direction1) (x direction1).freed_before (x direction1).messages (x direction1).of_pools
-
-    comes : (k : Trace (Event Container)) × (h ⊑ k) × History K k × ((d : Direction) → UnderWay d (l d) (p d) (a d) k)
-        × ((d : Direction) (q : ℕ) → freed d q k ≡ f d q)
-    comes = (
-      free_both.now,
-      free_both.behind,
-      free_both.is_history,
-      (λ d. (
-        free_both.is_left d ∙ set_both (λ d. left d h) l d,
-        free_both.is_passed d ∙ set_both (λ d. passed d h) p d,
-        free_both.is_arrived d ∙ set_both (λ d. arrived d h) a d,
-      )),
-      (λ d q. free_both.is_freed d q ∙ ap (λ y. y q) (set_both (λ d q. freed d q h) f d)),
-    )
-
--- plain containers need no slots and no credits
-plain_ahead : (K : Link) (d : Direction) (l p a : Trace K.Container) → a ⊑ p → p ⊑ l → Plain K d l → Ahead K start d l p a (λ q. 0)
-plain_ahead K d l p a b c n = record {
-  left_before = start_first l;
-  passed_before = start_first p;
-  arrived_before = start_first a;
-  freed_before = λ q. omega arith;
-  passes_left = c;
-  arrives_passed = b;
-  readable = n.0;
-  slots = λ q. let y = n.1 q in omega arith;
-  credits = λ q. let y = n.2 q in omega arith;
-  messages = λ q. omega arith;
-  of_pools = λ q _. refl;
-}
-
--- delays are arbitrary
-pub delays : (K : Link) → Delays K
-delays K = record {
-  any_delay = λ l p a n. let k = comes K start tt l p a (λ d q. 0) (λ d. plain_ahead K d (l d) (p d) (a d) (n d).0 (n d).1 (n d).2) in (k.0, k.2, k.3);
-  from_any_moment = comes K;
-}

@@ -12,3 +12,4 @@ pub mod InterleavingLaws
 pub mod Interleaved
 pub mod Example
 pub mod DelayLaws
+pub mod DelayTheorem
