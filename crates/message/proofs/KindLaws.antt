@@ -15,7 +15,7 @@ use Rattle.lists.proofs.PickLaws.{pick_both, pick_by}
 use Rattle.container.specs.Layout.{Format, wide}
 use Rattle.message.specs.Heads.{type_of, op_of, size_by, op_sizes, class_of, flag_bounds, flag_bound, flags_ok, push_ok, activation_ok, grant_ok, resp, misc_u}
 use Rattle.message.specs.Places.{placed}
-use Rattle.message.specs.Charges.{shared_crdt, res_plane, req_pool, dat_pool, push_pool, paid_by, listed, charges}
+use Rattle.message.specs.Charges.{shared_crdt, res_plane, req_pool, dat_pool, push_pool, paid_by, listed}
 use Rattle.message.specs.Kinds.{req, dat, free, pays_by, pays, pool_kind, charged, PaysAsCharged}
 use Rattle.message.specs.declared.heads.Class.{Class}
 use Rattle.message.specs.declared.heads.Class.TheVariants.{Unknown, Request, Response, Snoop, Data, RequestData, Misc}

@@ -1,4 +1,3 @@
-use borrow.Author.Rules.{rules}
 use Rattle.cause.proofs.number_cause.Goals as goal
 
 pub returns-in-ContainerLength : goal.returns-in-ContainerLength

@@ -1,4 +1,3 @@
-use borrow.Author.Rules.{rules}
 use Rattle.container.proofs.grant.allows_plane.Goals as goal
 
 pub returns-then-grant : goal.returns-then-grant

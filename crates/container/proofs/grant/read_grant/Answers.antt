@@ -1,4 +1,3 @@
-use borrow.Author.Rules.{rules}
 use Rattle.container.proofs.grant.read_grant.Goals as goal
 
 pub returns : goal.returns

@@ -1,7 +1,6 @@
 use mathlib.Core.Path.{◌∙◌}
 use Rattle.container.proofs.IdleLaws.{idle_other}
 use borrow.Author.Tests.{ne_eqb, eq-eqb}
-use borrow.Author.Rules.{rules}
 use Rattle.container.proofs.idle.is_idle.Goals as goal
 
 pub returns-then-container-ne-CONTAINER : goal.returns-then-container-ne-CONTAINER

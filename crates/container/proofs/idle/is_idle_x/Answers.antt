@@ -1,9 +1,7 @@
 use mathlib.Core.Path.{sym, ap, ◌∙◌}
-use borrow.Author.Tests.{not-true, not-false}
 use Rattle.lists.specs.Parts.{zeros}
 use Rattle.lists.proofs.PartLaws.{rest_is}
 use Rattle.container.proofs.IdleLaws.{idle_x}
-use borrow.Author.Rules.{rules}
 use Rattle.container.proofs.idle.is_idle_x.Goals as goal
 
 pub returns-then-not-is_zero : goal.returns-then-not-is_zero

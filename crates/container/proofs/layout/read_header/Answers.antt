@@ -1,4 +1,3 @@
-use borrow.Author.Rules.{rules}
 use Rattle.container.proofs.layout.read_header.Goals as goal
 
 pub returns : goal.returns

@@ -1,7 +1,6 @@
 use Prim.Native.Nat.{◌<◌, ◌≤◌, ◌^◌}
 use native.Mathlib.Omega.{arith}
 use native.Mathlib.Nat.{div-eq_of_lt, pow-le-pow_right}
-use borrow.Author.Rules.{rules}
 use Rattle.container.proofs.layout.start_bit.Goals as goal
 
 pub returns-then-g-gt15 : goal.returns-then-g-gt15

@@ -1,4 +1,3 @@
-use borrow.Author.Rules.{rules}
 use Rattle.message.proofs.charge.charge_message.Goals as goal
 
 pub returns-in-Request : goal.returns-in-Request

@@ -1,5 +1,4 @@
 use borrow.Author.Tests.{ne_eqb}
-use borrow.Author.Rules.{rules}
 use Rattle.message.proofs.charge.choose_req.Goals as goal
 
 pub returns-then-byte0-eq1 : goal.returns-then-byte0-eq1

@@ -1,7 +1,6 @@
 use mathlib.Core.Path.{sym}
 use lib.ListN.{get_or-eq_default}
 use Rattle.message.specs.Heads.{flag_bounds}
-use borrow.Author.Rules.{rules}
 use Rattle.message.proofs.heads.bound_flags.Goals as goal
 
 pub returns : goal.returns

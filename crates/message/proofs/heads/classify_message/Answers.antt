@@ -1,7 +1,6 @@
 use Rattle.message.specs.declared.heads.Class.TheVariants.{Unknown}
 use Rattle.message.specs.Heads.{classes}
 use Rattle.lists.proofs.Codes.{past}
-use borrow.Author.Rules.{rules}
 use Rattle.message.proofs.heads.classify_message.Goals as goal
 
 pub returns-in-11-to-255 : goal.returns-in-11-to-255

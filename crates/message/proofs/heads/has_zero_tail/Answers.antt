@@ -3,7 +3,6 @@ use native.Mathlib.Omega.{arith}
 use lib.ListN.{drop, length-drop}
 use lib.Seq.{take_all}
 use Rattle.lists.specs.Parts.{zeros}
-use borrow.Author.Rules.{rules}
 use Rattle.message.proofs.heads.has_zero_tail.Goals as goal
 
 pub returns-then-message-lt16 : goal.returns-then-message-lt16

@@ -1,4 +1,3 @@
-use borrow.Author.Rules.{rules}
 use Rattle.message.proofs.heads.holds_grant.Goals as goal
 
 pub returns-then-is_form : goal.returns-then-is_form

@@ -1,7 +1,6 @@
 use Prim.Native.Nat.{◌<◌}
 use native.Mathlib.Omega.{arith}
 use borrow.Author.Tests.{eq-eqb, ne_eqb, lt-ltb}
-use borrow.Author.Rules.{rules}
 use Rattle.message.proofs.heads.is_message.Goals as goal
 
 pub returns-then-size-message : goal.returns-then-size-message

@@ -1,5 +1,4 @@
 use Rattle.message.proofs.HeadCases.{bytes_break, grant_decides}
-use borrow.Author.Rules.{rules}
 use Rattle.message.proofs.heads.is_well_headed.Goals as goal
 
 pub returns-then-keeps_bytes : goal.returns-then-keeps_bytes

@@ -1,5 +1,4 @@
 use borrow.Author.Tests.{le-leb, lt-leb}
-use borrow.Author.Rules.{rules}
 use Rattle.message.proofs.heads.keeps_activation.Goals as goal
 
 pub returns-then-byte2-ge1 : goal.returns-then-byte2-ge1

@@ -1,5 +1,4 @@
 use borrow.Author.Tests.{lt-ltb, le-ltb}
-use borrow.Author.Rules.{rules}
 use Rattle.message.proofs.heads.keeps_bytes.Goals as goal
 
 pub returns-then-bound_flags-byte0 : goal.returns-then-bound_flags-byte0

@@ -1,4 +1,3 @@
-use borrow.Author.Rules.{rules}
 use Rattle.message.proofs.heads.keeps_grant.Goals as goal
 
 pub returns-then-is_misc : goal.returns-then-is_misc

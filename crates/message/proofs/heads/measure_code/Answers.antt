@@ -4,7 +4,6 @@ use mathlib.Core.List.{[], ◌∷◌}
 use native.Mathlib.Omega.{arith}
 use lib.ListN.{get_or, get_or-append, get_or-eq_default}
 use Rattle.message.specs.Heads.{op_sizes, plain_sizes, type_sizes}
-use borrow.Author.Rules.{rules}
 use Rattle.message.proofs.heads.measure_code.Goals as goal
 
 pub returns-in-1-to-9 : goal.returns-in-1-to-9

@@ -1,6 +1,5 @@
 use Rattle.message.specs.Heads.{op_sizes}
 use Rattle.lists.proofs.Codes.{past}
-use borrow.Author.Rules.{rules}
 use Rattle.message.proofs.heads.measure_misc.Goals as goal
 
 pub returns-in-5-to-255 : goal.returns-in-5-to-255

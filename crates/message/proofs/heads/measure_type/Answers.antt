@@ -1,6 +1,5 @@
 use Rattle.lists.proofs.Codes.{past_last}
 use Rattle.message.specs.Heads.{plain_sizes}
-use borrow.Author.Rules.{rules}
 use Rattle.message.proofs.heads.measure_type.Goals as goal
 
 pub returns-in-0-2 : goal.returns-in-0-2

@@ -1,4 +1,3 @@
-use borrow.Author.Rules.{rules}
 use Rattle.message.proofs.place.may_start.Goals as goal
 
 pub returns-then-fits_in : goal.returns-then-fits_in

@@ -1,10 +1,10 @@
-use Prim.Native.Nat.{suc, ◌+◌, ◌-◌, ◌≤◌, ◌<◌}
+use Prim.Native.Nat.{◌+◌, ◌≤◌, ◌<◌}
 use mathlib.Core.Path.{◌≡◌, sym, ◌∙◌}
 use borrow.Author.Rules.{rules}
 use native.Mathlib.Omega.{arith}
 use lib.ListN.{length, drop}
 use Rattle.record.specs.declared.list.First.TheVariants.{Whole}
-use Rattle.record.specs.Records.{first_of, fault_from, list_fault}
+use Rattle.record.specs.Records.{first_of}
 use Rattle.record.proofs.RecordLaws.{found, offset_next, fault_start, fault_next, fault_bad, fault_empty, fault_end}
 use Rattle.record.proofs.list.check_list.Goals.{In-Whole}
 use Rattle.record.proofs.list.check_list.Goals as goal

@@ -1,11 +1,7 @@
-use Prim.Native.Nat.{suc, ◌+◌, ◌-◌, ◌≤◌, ◌<◌}
-use mathlib.Core.Path.{◌≡◌, sym, ◌∙◌}
-use borrow.Author.Rules.{rules}
-use native.Mathlib.Omega.{arith}
-use lib.ListN.{length, drop}
-use Rattle.record.specs.declared.list.First.TheVariants.{Whole}
-use Rattle.record.specs.Records.{first_of, fault_from, list_fault}
-use Rattle.record.proofs.RecordLaws.{found, offset_next, fault_start, fault_next, fault_bad, fault_empty, fault_end}
+use Prim.Native.Nat.{suc, ◌-◌, ◌≤◌}
+use mathlib.Core.Path.{◌≡◌}
+use lib.ListN.{length}
+use Rattle.record.specs.Records.{fault_from, list_fault}
 use Rattle.record.proofs.list.check_list.Given as goal
 
 abbrev pub invariant-loop-at : goal.invariant-loop-at

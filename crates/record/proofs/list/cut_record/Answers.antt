@@ -1,4 +1,3 @@
-use borrow.Author.Rules.{rules}
 use native.Mathlib.Omega.{arith}
 use Rattle.record.proofs.RecordLaws.{cut_short, cut_whole, cut_other}
 use Rattle.record.proofs.list.cut_record.Goals as goal

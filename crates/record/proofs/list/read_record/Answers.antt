@@ -1,5 +1,4 @@
 use mathlib.Core.Path.{sym, ◌∙◌}
-use borrow.Author.Rules.{rules}
 use Rattle.record.proofs.RecordLaws.{first_none, first_some}
 use Rattle.record.proofs.list.read_record.Goals as goal
 

@@ -1,6 +1,5 @@
-use borrow.Author.Rules.{rules}
 use native.Mathlib.Omega.{arith}
-use Rattle.record.proofs.EncodeLaws.{Encoding, encoding_starts, encoding_more, encoding_last}
+use Rattle.record.proofs.EncodeLaws.{encoding_starts, encoding_more, encoding_last}
 use Rattle.record.proofs.number.encode_number.Goals as goal
 
 pub loop-rest-init : goal.loop-rest-init

@@ -1,6 +1,4 @@
-use borrow.Author.Rules.{rules}
-use native.Mathlib.Omega.{arith}
-use Rattle.record.proofs.EncodeLaws.{Encoding, encoding_starts, encoding_more, encoding_last}
+use Rattle.record.proofs.EncodeLaws.{Encoding}
 use Rattle.record.proofs.number.encode_number.Given as goal
 
 abbrev pub invariant-loop-rest : goal.invariant-loop-rest

@@ -1,4 +1,3 @@
-use borrow.Author.Rules.{rules}
 use Rattle.record.specs.Number.{read_number}
 use Rattle.record.proofs.number.read_number.Goals as goal
 

@@ -2,7 +2,6 @@ use mathlib.Core.Path.{ap, ◌∙◌}
 use lib.ListN.{drop_of_length-le}
 use Rattle.lists.specs.Parts.{zeros}
 use Rattle.lists.proofs.PartLaws.{rest_is}
-use borrow.Author.Rules.{rules}
 use Rattle.slices.proofs.bytes.is_zero_from.Goals as goal
 
 pub returns-then-from-part : goal.returns-then-from-part

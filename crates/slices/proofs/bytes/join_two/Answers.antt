@@ -1,6 +1,5 @@
 use Prim.Native.Nat.{◌+◌, ◌*◌}
 use native.Mathlib.Omega.{arith}
-use borrow.Author.Rules.{rules}
 use Rattle.slices.proofs.ZeroTest.{byte_zero, joined_zero, weighted_zero}
 use Rattle.slices.proofs.bytes.join_two.Goals as goal
 

@@ -1,4 +1,3 @@
-use borrow.Author.Rules.{rules}
 use lib.Bits.{bit_or}
 use Rattle.slices.proofs.ZeroTest.{joined_zero, or_zero}
 use Rattle.slices.proofs.bytes.merge_sixteen.Goals as goal

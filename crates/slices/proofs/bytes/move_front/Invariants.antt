@@ -1,7 +1,5 @@
 use Prim.Native.Nat.{◌-◌}
-use native.Mathlib.Omega.{arith}
-use borrow.Author.Rules.{rules}
-use Rattle.slices.proofs.FrontLaws.{Moved, moved_none, moved_length, moved_more, moved_all}
+use Rattle.slices.proofs.FrontLaws.{Moved}
 use Rattle.slices.proofs.bytes.move_front.Given as goal
 
 abbrev pub invariant-loop-i : goal.invariant-loop-i

@@ -1,5 +1,4 @@
 use native.Mathlib.Omega.{arith}
-use borrow.Author.Rules.{rules}
 use Rattle.slices.proofs.ZeroTest.{sum_three}
 use Rattle.slices.proofs.bytes.sum_three.Goals as goal
 

@@ -1,8 +1,5 @@
-use Prim.Native.Nat.{◌-◌}
 use native.Mathlib.Omega.{arith}
-use lib.ListN.{length, replicate}
-use borrow.Author.Rules.{rules}
-use Rattle.lists.proofs.Fill.{Copied, copied_none}
+use Rattle.lists.proofs.Fill.{copied_none}
 use Rattle.slices.proofs.CopyLaws.{cleared_more, cleared_all}
 use Rattle.slices.proofs.copy.clear.Goals as goal
 

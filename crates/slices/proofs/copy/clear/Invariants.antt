@@ -1,9 +1,6 @@
 use Prim.Native.Nat.{◌-◌}
-use native.Mathlib.Omega.{arith}
 use lib.ListN.{length, replicate}
-use borrow.Author.Rules.{rules}
-use Rattle.lists.proofs.Fill.{Copied, copied_none}
-use Rattle.slices.proofs.CopyLaws.{cleared_more, cleared_all}
+use Rattle.lists.proofs.Fill.{Copied}
 use Rattle.slices.proofs.copy.clear.Given as goal
 
 abbrev pub invariant-loop-at : goal.invariant-loop-at

@@ -1,7 +1,5 @@
-use Prim.Native.Nat.{◌-◌}
 use native.Mathlib.Omega.{arith}
-use borrow.Author.Rules.{rules}
-use Rattle.slices.proofs.CopyLaws.{Copying, copying_none, copying_more, copying_all}
+use Rattle.slices.proofs.CopyLaws.{copying_none, copying_more, copying_all}
 use Rattle.slices.proofs.copy.copy_into.Goals as goal
 
 pub loop-i-init : goal.loop-i-init

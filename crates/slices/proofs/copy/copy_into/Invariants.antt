@@ -1,7 +1,5 @@
 use Prim.Native.Nat.{◌-◌}
-use native.Mathlib.Omega.{arith}
-use borrow.Author.Rules.{rules}
-use Rattle.slices.proofs.CopyLaws.{Copying, copying_none, copying_more, copying_all}
+use Rattle.slices.proofs.CopyLaws.{Copying}
 use Rattle.slices.proofs.copy.copy_into.Given as goal
 
 abbrev pub invariant-loop-i : goal.invariant-loop-i
