@@ -1,11 +1,10 @@
 -- Bytes that were handed out may be dropped: with both positions lowered the same record is handed out of the same list. Assumes nothing.
 use Prim.Native.Nat.{ℕ, ◌+◌, ◌-◌, ◌≤◌, ◌<◌}
-use mathlib.Core.Path.{◌≡◌, sym, ap, ◌∙◌, subst}
+use mathlib.Core.Path.{◌≡◌, sym, subst}
 use mathlib.Core.List.{List}
 use native.Mathlib.Omega.{arith}
-use lib.ListN.{length, take, drop, length-drop}
-use lib.Seq.{drop-drop}
-use Rattle.lists.specs.Parts.{part, IsBytes}
+use lib.ListN.{length, drop, length-drop}
+use Rattle.lists.specs.Parts.{IsBytes}
 use Rattle.lists.proofs.PartLaws.{bytes_drop}
 use Rattle.feeder.specs.Feeding.{feeding, fed_part}
 use Rattle.feeder.specs.Rules.{RecordAt, Valid, Short, Due, RunsOn, Rule, not_valid, too_long, hands_response, hands_other, both_empty, response_broken, other_broken}

@@ -4,7 +4,7 @@ use mathlib.Core.Path.{◌≡◌, refl}
 use mathlib.Core.Bool.{Bool, true}
 use mathlib.Core.List.{List, [], ◌∷◌, ◌++◌}
 use Rattle.lists.specs.Pick.{pick}
-use Rattle.cause.specs.Checks.{Pass, check}
+use Rattle.cause.specs.Checks.{Pass}
 use Rattle.cause.specs.declared.Cause.{Cause}
 use Rattle.cause.proofs.EachLaws.{Each}
 use Rattle.message.specs.Heads.{is_misc, crdt_grant}

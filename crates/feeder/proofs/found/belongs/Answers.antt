@@ -1,4 +1,3 @@
-use borrow.Author.Rules.{rules}
 use Rattle.feeder.proofs.found.belongs.Goals as goal
 
 pub returns-in-Responses : goal.returns-in-Responses

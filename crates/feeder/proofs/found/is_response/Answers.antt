@@ -1,6 +1,5 @@
 use mathlib.Core.Path.{ap}
 use lib.Dec.{ltb}
-use borrow.Author.Rules.{rules}
 use Rattle.feeder.proofs.found.is_response.Goals as goal
 
 pub returns : goal.returns

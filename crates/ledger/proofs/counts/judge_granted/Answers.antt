@@ -1,11 +1,7 @@
-use Prim.Native.Nat.{◌-◌, ◌≤◌}
-use mathlib.Core.Path.{◌≡◌, refl, sym, ◌∙◌}
+use mathlib.Core.Path.{refl, sym, ◌∙◌}
 use mathlib.Core.List.{[]}
-use borrow.Author.Rules.{rules}
 use native.Mathlib.Omega.{arith}
 use lib.ListN.{get_or}
-use Rattle.cause.specs.Checks.{first_fault}
-use Rattle.ledger.specs.CountingMirror.{capacity_row_checks}
 use Rattle.pools.proofs.PoolLoops.{checks_stop, checks_go_on, checks_end}
 use Rattle.ledger.proofs.CountLaws.{over_checks}
 use mathlib.Core.Path.{ap}

@@ -1,13 +1,9 @@
 use Prim.Native.Nat.{◌-◌, ◌≤◌}
-use mathlib.Core.Path.{◌≡◌, refl, sym, ◌∙◌}
+use mathlib.Core.Path.{◌≡◌}
 use mathlib.Core.List.{[]}
-use borrow.Author.Rules.{rules}
-use native.Mathlib.Omega.{arith}
 use lib.ListN.{get_or}
 use Rattle.cause.specs.Checks.{first_fault}
 use Rattle.ledger.specs.CountingMirror.{capacity_row_checks}
-use Rattle.pools.proofs.PoolLoops.{checks_stop, checks_go_on, checks_end}
-use Rattle.ledger.proofs.CountLaws.{over_checks}
 use Rattle.ledger.proofs.counts.judge_granted.Given as goal
 
 abbrev pub invariant-loop-p : goal.invariant-loop-p

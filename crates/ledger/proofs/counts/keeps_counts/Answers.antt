@@ -1,10 +1,7 @@
-use Prim.Native.Nat.{◌-◌, ◌≤◌}
-use mathlib.Core.Path.{◌≡◌, refl, sym, ◌∙◌}
+use mathlib.Core.Path.{refl, sym, ◌∙◌}
 use mathlib.Core.List.{[]}
-use borrow.Author.Rules.{rules}
 use native.Mathlib.Omega.{arith}
 use lib.ListN.{get_or}
-use Rattle.ledger.specs.CountingMirror.{rows_ok}
 use Rattle.pools.proofs.PoolLoops.{tests_stop, tests_go_on, tests_end}
 use Rattle.ledger.proofs.CountLaws.{row_tests, unpaid, paid_fits}
 use mathlib.Core.Path.{ap}

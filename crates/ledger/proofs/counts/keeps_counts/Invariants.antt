@@ -1,12 +1,8 @@
 use Prim.Native.Nat.{◌-◌, ◌≤◌}
-use mathlib.Core.Path.{◌≡◌, refl, sym, ◌∙◌}
+use mathlib.Core.Path.{◌≡◌}
 use mathlib.Core.List.{[]}
-use borrow.Author.Rules.{rules}
-use native.Mathlib.Omega.{arith}
 use lib.ListN.{get_or}
 use Rattle.ledger.specs.CountingMirror.{rows_ok}
-use Rattle.pools.proofs.PoolLoops.{tests_stop, tests_go_on, tests_end}
-use Rattle.ledger.proofs.CountLaws.{row_tests, unpaid, paid_fits}
 use Rattle.ledger.proofs.counts.keeps_counts.Given as goal
 
 abbrev pub invariant-loop-p : goal.invariant-loop-p

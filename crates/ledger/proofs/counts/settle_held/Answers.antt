@@ -1,8 +1,6 @@
-use Prim.Native.Nat.{◌-◌, ◌≤◌}
-use mathlib.Core.Path.{◌≡◌, ◌∙◌}
+use mathlib.Core.Path.{◌∙◌}
 use native.Mathlib.Omega.{arith}
-use borrow.Author.Rules.{rules}
-use Rattle.ledger.proofs.CountLaws.{raised_is, settled_to, settled_more, settled_all}
+use Rattle.ledger.proofs.CountLaws.{raised_is, settled_more, settled_all}
 use Rattle.pools.proofs.TableLaws.{rows_of}
 use Rattle.ledger.proofs.counts.settle_held.Goals as goal
 

@@ -1,9 +1,6 @@
 use Prim.Native.Nat.{◌-◌, ◌≤◌}
-use mathlib.Core.Path.{◌≡◌, ◌∙◌}
-use native.Mathlib.Omega.{arith}
-use borrow.Author.Rules.{rules}
-use Rattle.ledger.proofs.CountLaws.{raised_is, settled_to, settled_more, settled_all}
-use Rattle.pools.proofs.TableLaws.{rows_of}
+use mathlib.Core.Path.{◌≡◌}
+use Rattle.ledger.proofs.CountLaws.{settled_to}
 use Rattle.ledger.proofs.counts.settle_held.Given as goal
 
 abbrev pub invariant-loop-p : goal.invariant-loop-p

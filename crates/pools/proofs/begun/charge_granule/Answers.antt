@@ -1,5 +1,4 @@
 use Rattle.pools.proofs.BegunLaws.{charge_refused, charge_added}
-use borrow.Author.Rules.{rules}
 use mathlib.Core.Path.{ap}
 use mathlib.Core.Bool.{not}
 use Rattle.pools.proofs.begun.charge_granule.Goals as goal

@@ -1,6 +1,5 @@
 use mathlib.Core.Path.{◌∙◌}
 use native.Mathlib.Omega.{arith}
-use borrow.Author.Rules.{rules}
 use Rattle.pools.proofs.PassLaws.{begun_short, begun_refused, begun_accepted}
 use Rattle.pools.proofs.begun.tally_begun.Goals as goal
 

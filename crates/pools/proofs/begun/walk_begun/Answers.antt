@@ -1,8 +1,6 @@
-use Prim.Native.Nat.{◌-◌}
 use native.Mathlib.Omega.{arith}
-use borrow.Author.Rules.{rules}
 use Rattle.pools.proofs.PassLaws.{walk_fits, walk_stops, walk_on, walk_ends}
-use Rattle.pools.proofs.BegunLaws.{Begun, begun_walks, begun_starts, paid_most}
+use Rattle.pools.proofs.BegunLaws.{begun_walks, begun_starts, paid_most}
 use Rattle.pools.proofs.begun.walk_begun.Goals as goal
 
 pub loop-g-init : goal.loop-g-init

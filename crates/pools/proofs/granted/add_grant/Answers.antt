@@ -1,7 +1,6 @@
 use native.Mathlib.Omega.{arith}
 use Rattle.pools.proofs.TallyLaws.{Counts}
 use Rattle.pools.proofs.GrantedLaws.{Bytes, add_req, add_rsp, add_snp, add_dat, add_all}
-use borrow.Author.Rules.{rules}
 use Rattle.pools.proofs.granted.add_grant.Goals.{Start}
 use Rattle.pools.proofs.granted.add_grant.Goals as goal
 

@@ -1,5 +1,4 @@
 use borrow.Author.Tests.{ne_eqb}
-use borrow.Author.Rules.{rules}
 use Rattle.pools.proofs.granted.choose_dat.Goals as goal
 
 pub returns-then-grant-eq0 : goal.returns-then-grant-eq0

@@ -1,4 +1,3 @@
-use borrow.Author.Rules.{rules}
 use Rattle.pools.proofs.granted.choose_req.Goals as goal
 
 pub returns : goal.returns

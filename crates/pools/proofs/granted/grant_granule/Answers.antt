@@ -1,5 +1,4 @@
 use Rattle.pools.proofs.GrantedLaws.{no_grant_law, some_grant, form_plane}
-use borrow.Author.Rules.{rules}
 use mathlib.Core.Path.{ap}
 use mathlib.Core.Bool.{not}
 use Rattle.pools.proofs.granted.grant_granule.Goals as goal

@@ -2,8 +2,6 @@ use mathlib.Core.Path.{refl, sym, ◌∙◌}
 use Rattle.cause.specs.declared.Cause.TheVariants.{MissingGrantPool}
 use Rattle.pools.proofs.PassLaws.{never_accepted, one_fails, one_passes}
 use Rattle.pools.proofs.GrantedLaws.{grantable_pooled}
-use borrow.Author.Tests.{not-false}
-use borrow.Author.Rules.{rules}
 use mathlib.Core.Path.{ap}
 use mathlib.Core.Bool.{not}
 use Rattle.pools.proofs.granted.take_grant.Goals as goal

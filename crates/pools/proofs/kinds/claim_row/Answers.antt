@@ -1,8 +1,6 @@
-use Prim.Native.Nat.{◌-◌, ◌≤◌}
-use mathlib.Core.Path.{◌≡◌, refl}
+use mathlib.Core.Path.{refl}
 use native.Mathlib.Omega.{arith}
 use lib.Seq.{set-get_or}
-use borrow.Author.Rules.{rules}
 use Rattle.pools.proofs.kinds.claim_row.Goals as goal
 
 pub loop-p-init : goal.loop-p-init

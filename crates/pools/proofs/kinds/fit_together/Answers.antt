@@ -1,4 +1,3 @@
-use borrow.Author.Rules.{rules}
 use Rattle.pools.proofs.kinds.fit_together.Goals as goal
 
 pub returns : goal.returns

@@ -1,10 +1,10 @@
-use Prim.Native.Nat.{ℕ, ◌+◌, ◌-◌, ◌≤◌}
-use mathlib.Core.Path.{◌≡◌, refl, sym, ◌∙◌}
+use Prim.Native.Nat.{ℕ, ◌+◌}
+use mathlib.Core.Path.{◌≡◌, refl, ◌∙◌}
 use mathlib.Core.List.{List}
 use native.Mathlib.Omega.{arith}
 use lib.ListN.{length, get_or, replicate}
 use Rattle.lists.specs.Parts.{part}
-use Rattle.lists.proofs.Fill.{grown, grown_more, grown_all}
+use Rattle.lists.proofs.Fill.{grown_more, grown_all}
 use Rattle.lists.proofs.PartLaws.{part_at, length_part}
 use Rattle.pools.proofs.table.copy_row.Goals as goal
 

@@ -1,11 +1,8 @@
-use Prim.Native.Nat.{ℕ, ◌+◌, ◌-◌, ◌≤◌}
-use mathlib.Core.Path.{◌≡◌, refl, sym, ◌∙◌}
-use mathlib.Core.List.{List}
-use native.Mathlib.Omega.{arith}
-use lib.ListN.{length, get_or, replicate}
+use Prim.Native.Nat.{◌-◌, ◌≤◌}
+use mathlib.Core.Path.{◌≡◌}
+use lib.ListN.{replicate}
 use Rattle.lists.specs.Parts.{part}
-use Rattle.lists.proofs.Fill.{grown, grown_more, grown_all}
-use Rattle.lists.proofs.PartLaws.{part_at, length_part}
+use Rattle.lists.proofs.Fill.{grown}
 use Rattle.pools.proofs.table.copy_row.Given as goal
 
 abbrev pub invariant-loop-i : goal.invariant-loop-i

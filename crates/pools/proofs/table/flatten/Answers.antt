@@ -1,4 +1,3 @@
-use borrow.Author.Rules.{rules}
 use Rattle.pools.proofs.TableLaws.{rows_of, flat_put}
 use Rattle.pools.proofs.table.flatten.Goals as goal
 

@@ -1,7 +1,6 @@
 use mathlib.Core.Path.{sym}
 use native.Mathlib.Omega.{arith}
 use lib.ListN.{get_or-eq_default}
-use borrow.Author.Rules.{rules}
 use Rattle.pools.proofs.table.number_at.Goals as goal
 
 pub returns-then-list-start : goal.returns-then-list-start

@@ -1,10 +1,6 @@
-use Prim.Native.Nat.{ℕ, ◌+◌, ◌-◌, ◌≤◌}
-use mathlib.Core.Path.{◌≡◌, ◌∙◌}
-use mathlib.Core.List.{List}
+use mathlib.Core.Path.{◌∙◌}
 use native.Mathlib.Omega.{arith}
-use lib.ListN.{length}
-use borrow.Author.Rules.{rules}
-use Rattle.slices.proofs.CopyLaws.{Copying, copying_none, copying_more, copying_all, copied_whole}
+use Rattle.slices.proofs.CopyLaws.{copying_none, copying_more, copying_all, copied_whole}
 use Rattle.pools.proofs.table.put_row.Goals as goal
 
 pub loop-i-init : goal.loop-i-init

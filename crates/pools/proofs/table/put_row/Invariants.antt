@@ -1,10 +1,5 @@
-use Prim.Native.Nat.{ℕ, ◌+◌, ◌-◌, ◌≤◌}
-use mathlib.Core.Path.{◌≡◌, ◌∙◌}
-use mathlib.Core.List.{List}
-use native.Mathlib.Omega.{arith}
-use lib.ListN.{length}
-use borrow.Author.Rules.{rules}
-use Rattle.slices.proofs.CopyLaws.{Copying, copying_none, copying_more, copying_all, copied_whole}
+use Prim.Native.Nat.{◌-◌, ◌≤◌}
+use Rattle.slices.proofs.CopyLaws.{Copying}
 use Rattle.pools.proofs.table.put_row.Given as goal
 
 abbrev pub invariant-loop-i : goal.invariant-loop-i

@@ -1,11 +1,10 @@
-use Prim.Native.Nat.{ℕ, ◌+◌, ◌-◌, ◌≤◌}
-use mathlib.Core.Path.{◌≡◌, refl, sym, ◌∙◌}
+use Prim.Native.Nat.{ℕ, ◌+◌}
+use mathlib.Core.Path.{◌≡◌, refl, ◌∙◌}
 use mathlib.Core.List.{List}
 use native.Mathlib.Omega.{arith}
 use lib.ListN.{length, get_or, replicate}
-use borrow.Author.Rules.{rules}
 use Rattle.lists.specs.Parts.{part, pad}
-use Rattle.lists.proofs.Fill.{grown, grown_more, grown_all}
+use Rattle.lists.proofs.Fill.{grown_more, grown_all}
 use Rattle.lists.proofs.PartLaws.{part_at, part_most, length_pad, get_d_pad}
 use Rattle.pools.proofs.table.take_row.Goals as goal
 

@@ -1,7 +1,6 @@
 use native.Mathlib.Omega.{arith}
 use Rattle.pools.proofs.TallyLaws.{Counts}
 use Rattle.pools.proofs.TypeLaws.{add_first, add_push, add_both}
-use borrow.Author.Rules.{rules}
 use Rattle.pools.proofs.tally.add_charges.Goals.{Start}
 use Rattle.pools.proofs.tally.add_charges.Goals as goal
 

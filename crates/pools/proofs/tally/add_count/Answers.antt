@@ -1,5 +1,4 @@
 use Rattle.pools.proofs.TallyLaws.{raised_one}
-use borrow.Author.Rules.{rules}
 use Rattle.pools.proofs.tally.add_count.Goals as goal
 
 pub returns : goal.returns

@@ -5,7 +5,6 @@ use Rattle.message.specs.Heads.{class_of}
 use Rattle.message.specs.Charges.{charges_by}
 use Rattle.message.specs.declared.charge.Charges.{Charges}
 use Rattle.pools.proofs.TallyLaws.{AllChargeable, all_chargeable, pay_none, pay_fits, pay_one, pay_first, pay_second, pay_two}
-use borrow.Author.Rules.{rules}
 use Rattle.pools.proofs.tally.add_payment.Goals.{Start}
 use Rattle.pools.proofs.tally.add_payment.Goals as goal
 

@@ -2,7 +2,6 @@ use Prim.Native.Nat.{◌≤◌}
 use mathlib.Core.Bool.{◌&&◌}
 use native.Mathlib.Omega.{arith}
 use lib.Dec.{eqb, ltb, leb}
-use borrow.Author.Rules.{rules}
 use Rattle.pools.proofs.TypeLaws.{one_most}
 use Rattle.pools.proofs.tally.count_credits.Goals as goal
 

@@ -1,6 +1,5 @@
 use Prim.Native.Nat.{◌%◌}
 use mathlib.Core.Path.{refl, ◌∙◌}
-use borrow.Author.Rules.{rules}
 use Rattle.message.specs.Charges.{charges_by}
 use Rattle.pools.proofs.TallyLaws.{raised_zeros, zero_counts, taken}
 use Rattle.pools.proofs.tally.count_payment.Goals as goal

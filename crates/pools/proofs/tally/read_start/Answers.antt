@@ -1,6 +1,5 @@
 use lib.ListN.{get_or}
 use Rattle.pools.proofs.BegunLaws.{bit_fits, started_by}
-use borrow.Author.Rules.{rules}
 use Rattle.pools.proofs.tally.read_start.Goals as goal
 
 pub overflow_mul-result : goal.overflow_mul-result

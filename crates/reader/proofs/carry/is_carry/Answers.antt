@@ -1,5 +1,4 @@
 use Rattle.reader.proofs.StateCases.{carry_none, carry_ragged, carry_whole, carry_part}
-use borrow.Author.Rules.{rules}
 use Rattle.reader.proofs.carry.is_carry.Goals as goal
 
 pub returns-then-carry-eq0 : goal.returns-then-carry-eq0

@@ -1,7 +1,6 @@
 use native.Mathlib.Omega.{arith}
 use Rattle.container.proofs.Formats.{lawful_of, granule_length}
 use Rattle.reader.proofs.CellLaws.{granule_part, on_wide, same_answer}
-use borrow.Author.Rules.{rules}
 use Rattle.reader.proofs.cell.judge_cell.Goals as goal
 
 pub overflow_add-end : goal.overflow_add-end

@@ -1,7 +1,6 @@
 use mathlib.Core.Path.{sym, ◌∙◌}
 use native.Mathlib.Omega.{arith}
 use Rattle.reader.proofs.CellLaws.{twice, on_fine, empty_fine, empty_not}
-use borrow.Author.Rules.{rules}
 use Rattle.reader.proofs.cell.judge_part.Goals as goal
 
 pub returns-then-start : goal.returns-then-start

@@ -1,9 +1,7 @@
 use mathlib.Core.Path.{◌≡◌, refl}
-use borrow.Author.Tests.{not-true, not-false}
 use Rattle.message.specs.Heads.{well_headed}
 use Rattle.message.proofs.HeadCases.{bytes_break, grant_decides}
 use Rattle.reader.proofs.CellLaws.{unknown, misplaced, misheaded, start_not, start_fine}
-use borrow.Author.Rules.{rules}
 use mathlib.Core.Path.{ap}
 use mathlib.Core.Bool.{not}
 use Rattle.reader.proofs.cell.judge_start.Goals.{After-keeps_grant}

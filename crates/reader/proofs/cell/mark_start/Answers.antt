@@ -1,7 +1,6 @@
 use native.Mathlib.Omega.{arith}
 use Rattle.message.proofs.PlaceLaws.{responses_most, miscs_most}
 use Rattle.reader.proofs.MarkLaws.{counts_most}
-use borrow.Author.Rules.{rules}
 use Rattle.reader.proofs.cell.mark_start.Goals as goal
 
 pub overflow_mul-counts : goal.overflow_mul-counts

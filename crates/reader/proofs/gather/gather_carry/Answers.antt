@@ -4,7 +4,6 @@ use native.Mathlib.Omega.{arith}
 use Rattle.container.specs.Layout.{format_of}
 use Rattle.reader.specs.TrackingMirror.{gathered_message}
 use Rattle.reader.proofs.GatherLaws.{carried_none, carried_some}
-use borrow.Author.Rules.{rules}
 use Rattle.reader.proofs.gather.gather_carry.Goals as goal
 
 pub returns-then-track-eq0 : goal.returns-then-track-eq0

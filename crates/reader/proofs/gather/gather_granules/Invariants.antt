@@ -1,9 +1,5 @@
-use borrow.Author.Rules.{rules}
 use Prim.Native.Nat.{◌-◌}
-use native.Mathlib.Omega.{arith}
-use mathlib.Core.Path.{◌∙◌}
-use mathlib.Core.Logic.{⊎_elim}
-use Rattle.reader.proofs.GatherLaws.{Gathering, gathering_none, gathering_room, gathering_more, gathering_over, gathering_all}
+use Rattle.reader.proofs.GatherLaws.{Gathering}
 use Rattle.reader.proofs.gather.gather_granules.Given as goal
 
 abbrev pub invariant-loop-k : goal.invariant-loop-k

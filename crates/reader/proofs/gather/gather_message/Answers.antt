@@ -4,7 +4,6 @@ use native.Mathlib.Omega.{arith}
 use Rattle.container.specs.Layout.{format_of}
 use Rattle.reader.specs.TrackingMirror.{gathered}
 use Rattle.reader.proofs.GatherLaws.{behind_fits, both_put}
-use borrow.Author.Rules.{rules}
 use Rattle.reader.proofs.gather.gather_message.Goals.{Start}
 use Rattle.reader.proofs.gather.gather_message.Goals as goal
 

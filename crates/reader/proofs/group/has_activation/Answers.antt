@@ -1,8 +1,6 @@
 use Rattle.reader.proofs.MarkLaws.{activations_stop, activations_go_on, activations_end}
-use Prim.Native.Nat.{◌≤◌, ◌-◌}
-use mathlib.Core.Path.{◌≡◌, refl}
+use mathlib.Core.Path.{refl}
 use native.Mathlib.Omega.{arith}
-use Rattle.reader.specs.TrackingMirror.{activation_marks}
 use Rattle.reader.proofs.group.has_activation.Goals as goal
 
 pub loop-i-init : goal.loop-i-init

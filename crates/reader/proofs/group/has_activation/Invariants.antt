@@ -1,7 +1,5 @@
-use Rattle.reader.proofs.MarkLaws.{activations_stop, activations_go_on, activations_end}
 use Prim.Native.Nat.{◌≤◌, ◌-◌}
-use mathlib.Core.Path.{◌≡◌, refl}
-use native.Mathlib.Omega.{arith}
+use mathlib.Core.Path.{◌≡◌}
 use Rattle.reader.specs.TrackingMirror.{activation_marks}
 use Rattle.reader.proofs.group.has_activation.Given as goal
 

@@ -1,9 +1,6 @@
-use borrow.Author.Rules.{rules}
-use Rattle.reader.proofs.MarkLaws.{groups_stop, groups_go_on, groups_end}
-use mathlib.Core.Path.{◌≡◌, refl, sym, ◌∙◌}
+use mathlib.Core.Path.{◌≡◌}
 use Prim.Native.Nat.{◌≤◌, ◌-◌}
-use mathlib.Core.Path.{◌≡◌, refl}
-use native.Mathlib.Omega.{arith}
+use mathlib.Core.Path.{◌≡◌}
 use Rattle.cause.specs.Checks.{first_fault}
 use Rattle.reader.specs.TrackingMirror.{mark_checks}
 use Rattle.reader.proofs.group.judge_groups.Given as goal

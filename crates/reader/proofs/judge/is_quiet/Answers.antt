@@ -3,7 +3,6 @@ use Rattle.container.specs.Grants.{no_counts}
 use Rattle.reader.specs.TrackingMirror.{activation_marks}
 use mathlib.Core.Path.{sym, ◌∙◌}
 use Rattle.reader.proofs.JudgeLaws.{with_counts, without_counts}
-use borrow.Author.Rules.{rules}
 use Rattle.reader.proofs.judge.is_quiet.Goals as goal
 
 pub returns-then-has_counts : goal.returns-then-has_counts

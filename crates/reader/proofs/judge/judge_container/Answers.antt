@@ -1,5 +1,4 @@
 use Rattle.reader.proofs.JudgeLaws.{header_fails, granules_fail, marks_judged}
-use borrow.Author.Rules.{rules}
 use Rattle.reader.proofs.judge.judge_container.Goals as goal
 
 pub returns-in-Refused : goal.returns-in-Refused

@@ -1,7 +1,5 @@
 use mathlib.Core.Path.{sym, ap, ◌∙◌}
-use borrow.Author.Tests.{not-true, not-false}
 use Rattle.container.specs.Grants.{plane_allowed}
-use borrow.Author.Rules.{rules}
 use Rattle.reader.proofs.judge.judge_header.Goals as goal
 
 pub returns-then-not-keeps_reserved : goal.returns-then-not-keeps_reserved

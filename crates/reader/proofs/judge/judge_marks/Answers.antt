@@ -1,5 +1,4 @@
 use Rattle.reader.proofs.JudgeLaws.{groups_fail, beside, behind_fine}
-use borrow.Author.Rules.{rules}
 use mathlib.Core.Path.{ap}
 use mathlib.Core.Bool.{not}
 use Rattle.reader.proofs.judge.judge_marks.Goals as goal

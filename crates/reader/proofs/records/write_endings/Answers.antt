@@ -1,6 +1,5 @@
-use Prim.Native.Nat.{◌-◌}
 use native.Mathlib.Omega.{arith}
-use Rattle.reader.proofs.WriteLaws.{Writing, writing_none, writing_all, writing_asks, writing_more}
+use Rattle.reader.proofs.WriteLaws.{writing_none, writing_all, writing_asks, writing_more}
 use Rattle.reader.proofs.records.write_endings.Goals as goal
 
 pub carried-track-requires : goal.carried-track-requires

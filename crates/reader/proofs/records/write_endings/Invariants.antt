@@ -1,6 +1,5 @@
 use Prim.Native.Nat.{◌-◌}
-use native.Mathlib.Omega.{arith}
-use Rattle.reader.proofs.WriteLaws.{Writing, writing_none, writing_all, writing_asks, writing_more}
+use Rattle.reader.proofs.WriteLaws.{Writing}
 use Rattle.reader.proofs.records.write_endings.Given as goal
 
 abbrev pub invariant-loop-g : goal.invariant-loop-g

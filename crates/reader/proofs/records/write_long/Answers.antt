@@ -4,7 +4,6 @@ use lib.ListN.{length-set}
 use Rattle.container.specs.Layout.{format_of}
 use Rattle.reader.specs.TrackingMirror.{gathered_message}
 use Rattle.reader.proofs.RecordsLaws.{Written, record_written}
-use borrow.Author.Rules.{rules}
 use Rattle.reader.proofs.records.write_long.Goals.{After-slice_known-2-1}
 use Rattle.reader.proofs.records.write_long.Goals as goal
 

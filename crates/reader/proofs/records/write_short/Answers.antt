@@ -4,7 +4,6 @@ use native.Mathlib.Omega.{arith}
 use lib.ListN.{length, set, length-set}
 use Rattle.slices.proofs.CopyLaws.{copied_whole}
 use Rattle.reader.proofs.RecordsLaws.{Written, record_written}
-use borrow.Author.Rules.{rules}
 use Rattle.reader.proofs.records.write_short.Goals.{After-slice_known-2-1}
 use Rattle.reader.proofs.records.write_short.Goals as goal
 

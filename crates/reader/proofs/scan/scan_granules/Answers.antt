@@ -1,7 +1,5 @@
-use borrow.Author.Rules.{rules}
-use Prim.Native.Nat.{◌-◌}
 use native.Mathlib.Omega.{arith}
-use Rattle.reader.proofs.ScanLaws.{Scanning, scan_starts, scan_stops, scan_goes_on, scan_ends}
+use Rattle.reader.proofs.ScanLaws.{scan_starts, scan_stops, scan_goes_on, scan_ends}
 use Rattle.reader.proofs.scan.scan_granules.Goals as goal
 
 pub loop-g-init : goal.loop-g-init

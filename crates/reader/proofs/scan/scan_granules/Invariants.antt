@@ -1,7 +1,5 @@
-use borrow.Author.Rules.{rules}
 use Prim.Native.Nat.{◌-◌}
-use native.Mathlib.Omega.{arith}
-use Rattle.reader.proofs.ScanLaws.{Scanning, scan_starts, scan_stops, scan_goes_on, scan_ends}
+use Rattle.reader.proofs.ScanLaws.{Scanning}
 use Rattle.reader.proofs.scan.scan_granules.Given as goal
 
 abbrev pub invariant-loop-g : goal.invariant-loop-g

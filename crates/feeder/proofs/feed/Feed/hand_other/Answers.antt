@@ -1,4 +1,3 @@
-use borrow.Author.Rules.{rules}
 use Rattle.feeder.proofs.feed.Feed.hand_other.Goals as goal
 
 pub returns-in-Right : goal.returns-in-Right

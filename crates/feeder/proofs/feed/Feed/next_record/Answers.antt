@@ -1,6 +1,5 @@
 use Rattle.feeder.proofs.StepLaws.{bounds, part_is}
 use Rattle.feeder.specs.declared.found.Waiting.TheVariants.{Responses, Others, Neither}
-use borrow.Author.Rules.{rules}
 use Rattle.feeder.proofs.feed.Feed.next_record.Goals as goal
 
 pub slice_bounds-result-count : goal.slice_bounds-result-count

@@ -1,6 +1,5 @@
 use Rattle.feeder.proofs.StepCases.{valid, step_refused, step_response, step_other, step_due}
 use Rattle.feeder.specs.declared.found.Waiting.TheVariants.{Neither}
-use borrow.Author.Rules.{rules}
 use Rattle.feeder.proofs.feed.Feed.next_step.Goals as goal
 
 pub returns-in-Refused : goal.returns-in-Refused

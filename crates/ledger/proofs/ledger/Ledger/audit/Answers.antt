@@ -1,5 +1,4 @@
 use Rattle.ledger.proofs.AuditLaws.{audit_invalid, audit_long, audit_admitted}
-use borrow.Author.Rules.{rules}
 use mathlib.Core.Path.{ap}
 use mathlib.Core.Bool.{not}
 use Rattle.ledger.proofs.ledger.Ledger.audit.Goals as goal

@@ -4,7 +4,6 @@ use Rattle.reader.specs.declared.reader.Reader.{Reader}
 use Rattle.reader.proofs.AnswerLaws.{judged_refused, judged_accepted}
 use Rattle.ledger.specs.Audit.{reader_of}
 use Rattle.ledger.proofs.AuditLaws.{read_refused}
-use borrow.Author.Rules.{rules}
 use Rattle.ledger.proofs.ledger.Ledger.audit_contents.Goals as goal
 
 pub audit_read-requires : goal.audit_read-requires

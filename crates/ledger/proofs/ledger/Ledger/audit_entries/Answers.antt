@@ -1,5 +1,4 @@
 use mathlib.Core.Path.{sym, ◌∙◌}
-use borrow.Author.Rules.{rules}
 use Rattle.ledger.proofs.ledger.Ledger.audit_entries.Goals as goal
 
 pub audit_framed-requires : goal.audit_framed-requires

@@ -1,5 +1,4 @@
 use Rattle.ledger.proofs.AuditLaws.{next_short, begun_refused, granted_refused, audit_settles}
-use borrow.Author.Rules.{rules}
 use Rattle.ledger.proofs.ledger.Ledger.audit_read.Goals as goal
 
 pub returns-in-Refused : goal.returns-in-Refused

@@ -1,4 +1,3 @@
-use borrow.Author.Rules.{rules}
 use Rattle.ledger.proofs.ledger.Ledger.audit_valid.Goals as goal
 
 pub returns-then-is_entry_idle : goal.returns-then-is_entry_idle

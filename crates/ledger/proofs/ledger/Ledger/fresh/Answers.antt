@@ -1,4 +1,3 @@
-use borrow.Author.Rules.{rules}
 use Rattle.ledger.proofs.ledger.Ledger.fresh.Goals as goal
 
 pub returns-then-is_configured : goal.returns-then-is_configured

@@ -1,7 +1,6 @@
 use mathlib.Core.Path.{◌≡◌, sym, ap, ◌∙◌}
 use native.Mathlib.Omega.{arith}
 use lib.ListN.{length}
-use borrow.Author.Tests.{not-false}
 use Rattle.reader.specs.Reading.{carried}
 use Rattle.reader.proofs.NextLaws.{carry_part, valid_short}
 use Rattle.ledger.proofs.LedgerCases.{receiver_fails, reader_fails, direction_decides}

@@ -1,6 +1,5 @@
 use Rattle.ledger.specs.Audit.{direction_ok}
 use Rattle.ledger.proofs.LedgerCases.{first_fails, second_decides}
-use borrow.Author.Rules.{rules}
 use Rattle.ledger.proofs.ledger.Ledger.is_valid.Goals as goal
 
 pub returns-then-is_direction_valid : goal.returns-then-is_direction_valid

@@ -1,5 +1,4 @@
 use Rattle.ledger.proofs.LedgerCases.{carry_refused, pools_decide, counts_pools}
-use borrow.Author.Rules.{rules}
 use mathlib.Core.Path.{ap}
 use mathlib.Core.Bool.{not}
 use Rattle.ledger.proofs.ledger.Ledger.keeps_pools.Goals as goal

@@ -1,7 +1,6 @@
 use Prim.Native.Nat.{◌+◌, min}
 use mathlib.Core.Path.{◌≡◌}
 use native.Mathlib.Omega.{arith}
-use borrow.Author.Rules.{rules}
 use Rattle.pools.proofs.kinds.Credits.raise.Goals as goal
 
 pub returns-then-self-more : goal.returns-then-self-more

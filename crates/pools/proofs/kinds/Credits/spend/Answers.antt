@@ -1,7 +1,6 @@
 use Prim.Native.Nat.{◌-◌}
 use mathlib.Core.Path.{◌≡◌}
 use native.Mathlib.Omega.{arith}
-use borrow.Author.Rules.{rules}
 use Rattle.pools.proofs.kinds.Credits.spend.Goals as goal
 
 pub returns-then-self-charge : goal.returns-then-self-charge

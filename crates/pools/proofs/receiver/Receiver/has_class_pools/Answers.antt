@@ -1,6 +1,5 @@
 use mathlib.Core.Path.{sym, ◌∙◌}
 use mathlib.Core.Bool.{and-true}
-use borrow.Author.Rules.{rules}
 use Rattle.pools.proofs.receiver.Receiver.has_class_pools.Goals as goal
 
 pub returns-then-has_plane : goal.returns-then-has_plane

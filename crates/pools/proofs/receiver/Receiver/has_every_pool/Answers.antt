@@ -1,5 +1,4 @@
 use borrow.Author.Tests.{le-leb, lt-leb}
-use borrow.Author.Rules.{rules}
 use Rattle.pools.proofs.receiver.Receiver.has_every_pool.Goals as goal
 
 pub returns-then-self-ge2 : goal.returns-then-self-ge2

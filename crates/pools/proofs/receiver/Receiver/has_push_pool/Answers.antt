@@ -3,7 +3,6 @@ use mathlib.Core.Bool.{or-false}
 use lib.Dec.{eqb}
 use Rattle.lists.proofs.Tests.{or_true}
 use borrow.Author.Tests.{le-leb, lt-leb}
-use borrow.Author.Rules.{rules}
 use Rattle.pools.proofs.receiver.Receiver.has_push_pool.Goals as goal
 
 pub returns-then-self-ge2 : goal.returns-then-self-ge2

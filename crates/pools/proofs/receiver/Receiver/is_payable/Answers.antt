@@ -1,6 +1,5 @@
 use mathlib.Core.Path.{sym, ◌∙◌}
 use Rattle.pools.proofs.ReceiverCases.{every_pool}
-use borrow.Author.Rules.{rules}
 use Rattle.pools.proofs.receiver.Receiver.is_payable.Goals as goal
 
 pub returns-then-has_every_pool : goal.returns-then-has_every_pool

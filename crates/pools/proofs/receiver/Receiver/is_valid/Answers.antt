@@ -1,7 +1,5 @@
-use Prim.Native.Nat.{◌-◌, ◌≤◌}
-use mathlib.Core.Path.{◌≡◌, refl, sym, ◌∙◌}
+use mathlib.Core.Path.{refl, sym, ◌∙◌}
 use native.Mathlib.Omega.{arith}
-use Rattle.pools.specs.Pools.{capacities_ok}
 use Rattle.pools.proofs.PoolLoops.{tests_stop, tests_go_on, tests_end}
 use Rattle.pools.proofs.ReceiverCases.{planes_none, planes_over, planes_fine, capacity_tests}
 use mathlib.Core.Path.{ap}

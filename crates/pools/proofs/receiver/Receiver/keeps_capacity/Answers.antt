@@ -1,4 +1,3 @@
-use borrow.Author.Rules.{rules}
 use Rattle.pools.proofs.ReceiverCases.{capacity_over, capacity_none, capacity_some}
 use Rattle.pools.proofs.receiver.Receiver.keeps_capacity.Goals as goal
 

@@ -1,5 +1,4 @@
 use borrow.Author.Tests.{lt-ltb, le-ltb}
-use borrow.Author.Rules.{rules}
 use Rattle.reader.proofs.reader.Reader.fresh.Goals as goal
 
 pub returns-then-format-lt2 : goal.returns-then-format-lt2

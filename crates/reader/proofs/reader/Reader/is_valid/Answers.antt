@@ -1,6 +1,5 @@
 use mathlib.Core.Path.{◌∙◌}
 use borrow.Author.Tests.{lt-ltb, le-ltb}
-use borrow.Author.Rules.{rules}
 use Rattle.reader.proofs.reader.Reader.is_valid.Goals as goal
 
 pub returns-then-self-ge2 : goal.returns-then-self-ge2

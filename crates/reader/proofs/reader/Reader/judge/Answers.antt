@@ -1,6 +1,5 @@
 use mathlib.Core.Path.{sym, ◌∙◌}
 use Rattle.reader.proofs.AnswerLaws.{judge_entry_refused, accepted_entry}
-use borrow.Author.Rules.{rules}
 use Rattle.reader.proofs.reader.Reader.judge.Goals as goal
 
 pub returns-in-Refused : goal.returns-in-Refused

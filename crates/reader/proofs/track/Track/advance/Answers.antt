@@ -1,6 +1,5 @@
 use Rattle.container.specs.Layout.{format_of}
 use Rattle.reader.proofs.TrackCases.{is_wide, is_narrow}
-use borrow.Author.Rules.{rules}
 use Rattle.reader.proofs.track.Track.advance.Goals as goal
 
 pub returns-then-measure_granule-ne-WIDE : goal.returns-then-measure_granule-ne-WIDE

@@ -1,6 +1,5 @@
 use Rattle.container.specs.Layout.{format_of}
 use Rattle.reader.proofs.TrackCases.{follow_on, follow_start, follow_idle}
-use borrow.Author.Rules.{rules}
 use Rattle.reader.proofs.track.Track.follow.Goals as goal
 
 pub returns-then-self-gt0 : goal.returns-then-self-gt0

@@ -4,7 +4,6 @@ use Rattle.container.proofs.Formats.{lawful_of}
 use Rattle.message.specs.Heads.{msg_size}
 use Rattle.reader.proofs.CellLaws.{granule_part}
 use Rattle.reader.proofs.TrackCases.{pass_start, pass_idle}
-use borrow.Author.Rules.{rules}
 use Rattle.reader.proofs.track.Track.pass.Goals as goal
 
 pub overflow_add-end : goal.overflow_add-end
