@@ -1,3 +1,4 @@
+pub mod FormatTests
 pub mod Formats
 pub mod TableLaws
 pub mod IdleLaws
