@@ -101,7 +101,7 @@ module _ (s : Unpacker) (w : Window) (buf room : List ℕ) (ok : (w.at ≤ w.hav
         turned outcome.Next e
         (subst (λ (x : List ℕ). Follows (left_by call b) w.ended x w' outcome.Next) (sym eb)
         (subst (λ (x : Window). Follows (left_by call b) w.ended buf x outcome.Next) (sym ew)
-        (record { inside = used-inside.0; within = ok.1; bytes = left }, refl, refl)))
+        (record { inside = used_inside.0; within = ok.1; bytes = left }, refl, refl)))
 
 -- ---- turns come to an end
 

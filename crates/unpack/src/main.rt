@@ -62,12 +62,23 @@ fn refill<R: Read>(input: &mut R, buf: &mut [u8], at: usize, have: usize) -> Win
         Refill::Got(n) => frame(0, n, false, Progress::On),
         Refill::End => frame(0, left, true, Progress::On),
         Refill::Failed(error) => frame(0, left, false, Progress::Failed(error)),
-        Refill::Full => frame(0, left, false, Progress::Failed(Error::other("the buffer is full"))),
+        Refill::Full => frame(
+            0,
+            left,
+            false,
+            Progress::Failed(Error::other("the buffer is full")),
+        ),
     }
 }
 
 // One turn: a call on the bytes at hand, and a refill where it asks for more.
-fn take_turn<R: Read>(input: &mut R, unpacker: Unpacker, window: Window, buf: &mut [u8], room: &mut [u8]) -> Turn
+fn take_turn<R: Read>(
+    input: &mut R,
+    unpacker: Unpacker,
+    window: Window,
+    buf: &mut [u8],
+    room: &mut [u8],
+) -> Turn
     requires { (window.at ≤ window.have) × (window.have ≤ length buf.old) × (min_room ≤ length room.old) }
     ensures turn { Taken unpacker (held window buf.old) window.ended buf.new result }
     ensures room { room.new ≡ printed unpacker (held window buf.old) window.ended room.old }
@@ -99,7 +110,12 @@ fn take_turn<R: Read>(input: &mut R, unpacker: Unpacker, window: Window, buf: &m
 }
 
 // Takes turns and writes the text of each, until the verdict is there or a read or a write fails.
-fn unpack_input<R: Read, W: Write>(input: &mut R, output: &mut W, buf: &mut [u8], room: &mut [u8]) -> Progress
+fn unpack_input<R: Read, W: Write>(
+    input: &mut R,
+    output: &mut W,
+    buf: &mut [u8],
+    room: &mut [u8],
+) -> Progress
     requires { (length buf.old ≡ 65536) × (min_room ≤ length room.old) }
     ensures { Ended result }
 {
