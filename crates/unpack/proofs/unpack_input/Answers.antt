@@ -33,3 +33,6 @@ loop-error-preserved g c =
 pub returns-in-Over : goal.returns-in-Over
 returns-in-Over g c =
     looping_over _ _ _ _ _ _ c.loop-error.invariant _ c.take_turn-turn.new.room _ c.take_turn-turn.ensures.turn c.in-Over.is
+
+pub returns-in-Failed : goal.returns-in-Failed
+returns-in-Failed g c = tt
