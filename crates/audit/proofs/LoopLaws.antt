@@ -15,6 +15,7 @@ use Rattle.logs.proofs.CutTheorem.{consume_within}
 use Rattle.audit.specs.Turns.{Turned, Taken, Turns, none, more, Judged}
 use Rattle.audit.specs.declared.Progress.TheVariants.{On, Over, Failed}
 use Rattle.audit.specs.declared.Turn.{Turn}
+use Rattle.std.specs.declared.io.Error.{Error}
 use Rattle.audit.proofs.OffsetLaws.{most_bytes}
 use Rattle.audit.proofs.TurnTheorem.{onward, turns_bounded, turn_less}
 
@@ -44,12 +45,12 @@ module _ (before : List ℕ) (s : LogReader) (at have : ℕ) (h : Between before
   few_left = let n = left_length in let few = (turns_bounded h.turns).1 in omega arith
 
   module _ (window : List ℕ) (r : Turn) where
-    turned : Taken s left window r → (r.progress ≡ Failed → ⊥) → Turned s left window r
-    turned (inl f) not-failed = absurd (not-failed f.0)
+    turned : Taken s left window r → ((e : Error) → r.progress ≡ Failed e → ⊥) → Turned s left window r
+    turned (inl f) not-failed = absurd (not-failed f.0 f.1)
     turned (inr t) not-failed = t
 
     on_turned : Taken s left window r → r.progress ≡ On → Turned s left window r
-    on_turned t on = turned t (λ failed. let z : ◌≡◌ {A = ℕ} 0 1 = cc in omega arith)
+    on_turned t on = turned t (λ error failed. let z : ◌≡◌ {A = ℕ} 0 1 = cc in omega arith)
 
     pub between_more : Taken s left window r → r.progress ≡ On → Between window r.reader r.at r.have
     between_more taken on =
@@ -70,7 +71,7 @@ module _ (before : List ℕ) (s : LogReader) (at have : ℕ) (h : Between before
 
     pub judged : Taken s left window r → (v : LogVerdict) → r.progress ≡ Over v → (l : List ℕ) × Judged l v
     judged taken v over =
-        let t = turned taken (λ failed. let z : ◌≡◌ {A = ℕ} 0 1 = cc in omega arith) in (
+        let t = turned taken (λ error failed. let z : ◌≡◌ {A = ℕ} 0 1 = cc in omega arith) in (
           h.l ++ t.read,
           record {
             before = h.l;

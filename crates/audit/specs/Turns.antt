@@ -1,4 +1,5 @@
 -- The turns of the program: each puts what one read gives behind the bytes left, and hands both to one call of `consume`.
+use Rattle.std.specs.declared.io.Error.{Error}
 use Rattle.std.specs.Prelude.{ℕ, ◌-◌, ◌<◌, ◌≡◌, List, [], ◌++◌, ◌⊎◌, length, take, eqb}
 use Rattle.lists.specs.Parts.{part}
 use Rattle.cause.specs.declared.Verdict.TheVariants as verdict
@@ -32,7 +33,7 @@ pub record Turned (s : LogReader) (left window : List ℕ) (r : Turn) : Type 0 w
 
 -- a turn, or a read that has failed though the window had room
 abbrev pub Taken : LogReader → List ℕ → List ℕ → Turn → Type 0
-Taken s left window r = ((r.progress ≡ Failed) × (length left < length window)) ⊎ Turned s left window r
+Taken s left window r = ((e : Error) × (r.progress ≡ Failed e) × (length left < length window)) ⊎ Turned s left window r
 
 -- the bytes that a turn leaves
 abbrev pub left_by : List ℕ → Turn → List ℕ
@@ -60,7 +61,7 @@ pub record Judged (l : List ℕ) (v : LogVerdict) : Type 0 where
 abbrev pub Audited : Progress → Type 0
 Audited On = ⊥
 Audited (Over v) = (l : List ℕ) × Judged l v
-Audited Failed = Unit {0}
+Audited (Failed e) = Unit {0}
 
 -- the line that is printed
 abbrev pub log_line : LogVerdict → List ℕ

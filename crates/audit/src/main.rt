@@ -1,7 +1,8 @@
 // Audits a log on standard input, in parts and in constant memory, and prints the verdict.
 #![tactic(auto)]
 
-ghost use Rattle.std.specs.Prelude.{◌≡◌, ◌-◌, ◌≤◌, ◌<◌, length};
+ghost use Rattle.std.specs.Prelude.{◌≡◌, ◌-◌, ◌≤◌, ◌<◌, length, OnOk};
+ghost use Rattle.std.specs.Io.KnownBytes.{Appends};
 ghost use Rattle.lists.specs.Parts.{part};
 ghost use Rattle.logs.specs.Stream.{consuming};
 ghost use Rattle.text.specs.Lines.{answer_of, room_of};
@@ -9,19 +10,20 @@ ghost use Rattle.audit.specs.Turns.{progress_by, turn_by, Taken, Audited, log_li
 
 use cause::Verdict;
 use input::{Refill, read_more};
-use libc::STDOUT_FILENO;
 use logs::{LogReader, LogVerdict, Outcome};
+use std::io::{Error, Read, Result, Write};
+use std::process::ExitCode;
 use text::write_verdict;
 
 // The room for a line.
 const ROOM: usize = 64;
 
-// What a turn comes to: the log goes on, the verdict is there, or the input could not be read.
+// What a turn comes to: the log goes on, the verdict is there, or the input could not be read, for this reason.
 #[derive(Clone, Copy)]
 pub enum Progress {
     On,
     Over(LogVerdict),
-    Failed,
+    Failed(Error),
 }
 
 // The log behind a turn: its state, and the bytes of the window that are left, from `at` up to `have`.
@@ -60,35 +62,41 @@ fn judge_bytes(reader: LogReader, bytes: &[u8], ended: bool) -> Turn
 }
 
 // A turn that could not read.
-fn fail_turn(reader: LogReader) -> Turn
-    ensures { result.progress ≡ Progress.Failed }
+fn fail_turn(reader: LogReader, error: Error) -> Turn
+    ensures { result.progress ≡ Progress.Failed error }
 {
     Turn {
         reader: reader,
         at: 0,
         have: 0,
-        progress: Progress::Failed,
+        progress: Progress::Failed(error),
     }
 }
 
 // One turn: the bytes left, and behind them those of one read, go to one call; a read that gives nothing ends the log. The window has
 // room, for no call leaves 261 bytes.
-fn take_turn(reader: LogReader, buf: &mut [u8], at: usize, have: usize) -> Turn
+fn take_turn<R: Read>(
+    input: &mut R,
+    reader: LogReader,
+    buf: &mut [u8],
+    at: usize,
+    have: usize,
+) -> Turn
     requires { (at ≤ have) × (have ≤ length buf.old) × (have - at < 261) × (261 ≤ length buf.old) }
     ensures { Taken reader (part at (have - at) buf.old) buf.new result }
 {
     let left = have - at;
-    let refill = read_more(buf, at, have);
+    let refill = read_more(input, buf, at, have);
     match refill {
         Refill::Got(n) => judge_bytes(reader, &buf[0..n], false),
         Refill::End => judge_bytes(reader, &buf[0..left], true),
-        Refill::Failed => fail_turn(reader),
-        Refill::Full => fail_turn(reader),
+        Refill::Failed(error) => fail_turn(reader, error),
+        Refill::Full => unreachable!(),
     }
 }
 
-// The verdict on standard input, or that it could not be read.
-fn audit_input(buf: &mut [u8]) -> Progress
+// The verdict on the input, or why it could not be read.
+fn audit_input<R: Read>(input: &mut R, buf: &mut [u8]) -> Progress
     requires { 261 ≤ length buf.old }
     ensures { Audited result }
 {
@@ -96,11 +104,11 @@ fn audit_input(buf: &mut [u8]) -> Progress
     let mut at = 0;
     let mut have = 0;
     loop {
-        let turn = take_turn(reader, buf, at, have);
+        let turn = take_turn(input, reader, buf, at, have);
         let progress = turn.progress;
         match progress {
             Progress::Over(verdict) => return Progress::Over(verdict),
-            Progress::Failed => return Progress::Failed,
+            Progress::Failed(error) => return Progress::Failed(error),
             Progress::On => {
                 reader = turn.reader;
                 at = turn.at;
@@ -125,22 +133,29 @@ fn write_line(verdict: LogVerdict, room: &mut [u8]) -> usize
     }
 }
 
-// Prints the line of a verdict, or says on standard error why that failed.
-fn print_verdict(verdict: LogVerdict) {
+// Writes the line of a verdict to an output.
+fn print_verdict<W: Write>(output: &mut W, verdict: LogVerdict) -> Result<()>
+    ensures { OnOk result (Appends (W.contents output.old) (W.contents output.new) (log_line verdict)) }
+{
     let mut room = [0u8; ROOM];
     let n = write_line(verdict, &mut room);
-    if io::write_all(STDOUT_FILENO, &room[0..n]) {
-        return;
-    }
-    os::fail(b"audit: standard output");
+    output.write_all(&room[0..n])
 }
 
-fn main() {
+// Says on standard error what failed and why, and answers the exit status of a failure.
+fn fail(rt: &impl Eprint, stream: &str, error: Error) -> ExitCode {
+    let _ = eprintln!(rt; "audit: standard {stream}: {error}");
+    ExitCode::FAILURE
+}
+
+fn main(rt: HostRuntime) -> ExitCode {
     let mut space = io::large_buffer();
-    let progress = audit_input(&mut space);
-    if let Progress::Over(verdict) = progress {
-        print_verdict(verdict);
-        return;
+    match audit_input(&mut rt.stdin(), &mut space) {
+        Progress::Over(verdict) => match print_verdict(&mut rt.stdout(), verdict) {
+            Ok(()) => ExitCode::SUCCESS,
+            Err(error) => fail(&rt, "output", error),
+        },
+        Progress::Failed(error) => fail(&rt, "input", error),
+        Progress::On => unreachable!(),
     }
-    os::fail(b"audit: standard input");
 }

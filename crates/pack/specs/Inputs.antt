@@ -20,4 +20,4 @@ pub data Whole (space : List ℕ) (have : ℕ) : Type 0 where
 -- what was read, by the space afterwards
 abbrev pub Loaded : List ℕ → Input → Type 0
 Loaded space (Bytes have) = (have ≤ length space) × Whole space have
-Loaded space Failed = Unit {0}
+Loaded space (Failed e) = Unit {0}

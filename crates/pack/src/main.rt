@@ -4,52 +4,67 @@
 
 mod packing;
 
+ghost use Rattle.std.specs.Prelude.{OnOk};
+ghost use Rattle.std.specs.Io.KnownBytes.{Appends};
 ghost use Rattle.pack.specs.Inputs.{Loaded};
+ghost use Rattle.pack.specs.Packing.{pack_output};
 
 use input::{Refill, read_more};
-use libc::STDOUT_FILENO;
 use packing::{MAX_OUTPUT, pack_into};
+use std::io::{Error, Read, Result, Write};
+use std::process::ExitCode;
 
 // A number, and one byte more than the longest list.
 const MAX_INPUT: usize = 4102;
 
-// What was read: so many bytes, or a read has failed.
+// What was read: so many bytes, or a read has failed, for this reason.
 #[derive(Clone, Copy)]
 pub enum Input {
     Bytes(usize),
-    Failed,
+    Failed(Error),
 }
 
-// Reads standard input until it ends or the space is full.
-fn read_all(space: &mut [u8]) -> Input
+// Reads the input until it ends or the space is full.
+fn read_all<R: Read>(input: &mut R, space: &mut [u8]) -> Input
     ensures { Loaded space.new result }
 {
     let mut have = 0;
     while have < space.len() {
-        let refill = read_more(space, 0, have);
+        let refill = read_more(input, space, 0, have);
         match refill {
             Refill::Got(n) => {
                 have = n;
             }
             Refill::End => return Input::Bytes(have),
-            Refill::Failed => return Input::Failed,
+            Refill::Failed(error) => return Input::Failed(error),
             Refill::Full => return Input::Bytes(have),
         }
     }
     Input::Bytes(have)
 }
 
-fn main() {
+// Writes the output for an input to a writer.
+fn print_packed<W: Write>(output: &mut W, input: &[u8]) -> Result<()>
+    ensures { OnOk result (Appends (W.contents output.old) (W.contents output.new) (pack_output input.now)) }
+{
+    let mut room = [0u8; MAX_OUTPUT];
+    let n = pack_into(input, &mut room);
+    output.write_all(&room[0..n])
+}
+
+// Says on standard error what failed and why, and answers the exit status of a failure.
+fn fail(rt: &impl Eprint, stream: &str, error: Error) -> ExitCode {
+    let _ = eprintln!(rt; "pack: standard {stream}: {error}");
+    ExitCode::FAILURE
+}
+
+fn main(rt: HostRuntime) -> ExitCode {
     let mut space = [0u8; MAX_INPUT];
-    let input = read_all(&mut space);
-    match input {
-        Input::Failed => os::fail(b"pack: standard input"),
-        Input::Bytes(have) => {
-            let mut room = [0u8; MAX_OUTPUT];
-            let n = pack_into(&space[0..have], &mut room);
-            if !io::write_all(STDOUT_FILENO, &room[0..n]) {
-                os::fail(b"pack: standard output");
-            }
-        }
+    match read_all(&mut rt.stdin(), &mut space) {
+        Input::Failed(error) => fail(&rt, "input", error),
+        Input::Bytes(have) => match print_packed(&mut rt.stdout(), &space[0..have]) {
+            Ok(()) => ExitCode::SUCCESS,
+            Err(error) => fail(&rt, "output", error),
+        },
     }
 }

@@ -11,6 +11,7 @@ use Rattle.lists.proofs.PartLaws.{length_part}
 use Rattle.input.specs.Refills.{AtHand as InputAtHand, Refilled}
 use Rattle.input.specs.declared.Refill.{Refill}
 use Rattle.input.specs.declared.Refill.TheVariants.{Got, End}
+use Rattle.std.specs.declared.io.Error.{Error}
 use Rattle.unpack.specs.Turns.{Filled, got, end, failed}
 use Rattle.unpack.specs.declared.Progress.TheVariants.{On, Failed}
 use Rattle.unpack.specs.declared.Window.{Window}
@@ -46,5 +47,5 @@ module _ (before after : List ℕ) (at have : ℕ) (ok : (at ≤ have) × (have 
       subst (Filled kept after) (sym ew)
       (end (record { inside = omega arith; within = omega (arith, long); bytes = ap (λ (j : ℕ). take j after) z ∙ h.front }) refl refl)
 
-  pub refill_failed : w ≡ record { at = 0; have = left; ended = false; progress = Failed } → Filled kept after w
-  refill_failed ew = subst (Filled kept after) (sym ew) (failed refl)
+  pub refill_failed : (e : Error) → w ≡ record { at = 0; have = left; ended = false; progress = Failed e } → Filled kept after w
+  refill_failed e ew = subst (Filled kept after) (sym ew) (failed e refl)

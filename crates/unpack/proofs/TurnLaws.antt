@@ -21,6 +21,7 @@ use Rattle.unpacker.specs.declared.unpack.Outcome.{Outcome}
 use Rattle.unpacker.specs.declared.unpack.Outcome.TheVariants as outcome
 use Rattle.unpacker.proofs.CutTheorem.{calls_left, Steps, stops, goes, waits, turn_steps, turn_within}
 use Rattle.unpacker.proofs.RoomLaws.{turn_fits}
+use Rattle.std.specs.declared.io.Error.{Error}
 use Rattle.unpack.specs.Turns.{held, AtHand, Filled, got, end, failed, Follows, Taken}
 use Rattle.unpack.specs.declared.Progress.TheVariants.{On, Over, Failed}
 use Rattle.unpack.specs.declared.Window.{Window}
@@ -100,7 +101,7 @@ module _ (s : Unpacker) (w : Window) (buf room : List ℕ) (ok : (w.at ≤ w.hav
         turned outcome.Next e
         (subst (λ (x : List ℕ). Follows (left_by call b) w.ended x w' outcome.Next) (sym eb)
         (subst (λ (x : Window). Follows (left_by call b) w.ended buf x outcome.Next) (sym ew)
-        (record { inside = used-inside.0; within = ok.1; bytes = left }, refl, refl)))
+        (record { inside = used_inside.0; within = ok.1; bytes = left }, refl, refl)))
 
 -- ---- turns come to an end
 
@@ -115,8 +116,8 @@ distance s w = calls_left s * 131074 + (2 * (65536 - (w.have - w.at)) + flag w.e
 over_on : Over ≡ On → ⊥
 over_on e = let z : ◌≡◌ {A = ℕ} 0 1 = cc in omega arith
 
-failed_on : Failed ≡ On → ⊥
-failed_on e = let z : ◌≡◌ {A = ℕ} 0 1 = cc in omega arith
+failed_on : (why : Error) → Failed why ≡ On → ⊥
+failed_on why e = let z : ◌≡◌ {A = ℕ} 0 1 = cc in omega arith
 
 at_hand : (w : Window) (buf x : List ℕ) → AtHand w buf x → w.have - w.at ≡ length x
 at_hand w buf x h =
@@ -163,7 +164,7 @@ module _ (s : Unpacker) (w : Window) (buf after : List ℕ) (r : Turn) (inside :
       let e1 : flag r.window.ended ≡ 0 = ap flag e in
       let e2 : flag w.ended ≡ 1 = ap flag going in
       record { inside = hand.inside; within = hand.within; less = omega (arith, length-drop t.used x, long) }
-  by_filled (failed q) stays none going = absurd (failed_on (sym q ∙ on))
+  by_filled (failed why q) stays none going = absurd (failed_on why (sym q ∙ on))
 
   by_steps : Steps s x w.ended t → Nearer s w after r
   by_steps (stops v e none) = absurd (over_on (sym (subst (Follows (left_by t x) w.ended after r.window) e h.window) ∙ on))

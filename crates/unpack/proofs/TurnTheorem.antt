@@ -14,6 +14,7 @@ use Rattle.unpacker.specs.declared.unpack.Outcome.{Outcome}
 use Rattle.unpacker.specs.declared.unpack.Outcome.TheVariants as outcome
 use Rattle.unpacker.proofs.CallTheorem.{Ends, one_call}
 use Rattle.unpacker.proofs.CutTheorem.{Steps, stops, goes, waits, turn_steps, fresh_text}
+use Rattle.std.specs.declared.io.Error.{Error}
 use Rattle.unpack.specs.Turns.{held, Filled, got, end, failed, Follows, Taken, Turns, none, next, more, last, Told, Ended}
 use Rattle.unpack.specs.declared.Progress.TheVariants.{On, Over, Failed}
 use Rattle.unpack.specs.declared.Window.{Window}
@@ -80,11 +81,11 @@ module _ (s : Unpacker) (b : List ℕ) (ended : Bool) (after : List ℕ) (r : Tu
 over_on : Over ≡ On → ⊥
 over_on e = let z : ◌≡◌ {A = ℕ} 0 1 = cc in omega arith
 
-failed_on : Failed ≡ On → ⊥
-failed_on e = let z : ◌≡◌ {A = ℕ} 0 1 = cc in omega arith
+failed_on : (why : Error) → Failed why ≡ On → ⊥
+failed_on why e = let z : ◌≡◌ {A = ℕ} 0 1 = cc in omega arith
 
-failed_over : Failed ≡ Over → ⊥
-failed_over e = let z : ◌≡◌ {A = ℕ} 0 1 = cc in omega arith
+failed_over : (why : Error) → Failed why ≡ Over → ⊥
+failed_over why e = let z : ◌≡◌ {A = ℕ} 0 1 = cc in omega arith
 
 -- a refill behind a call that has asked for more
 filled_on : (s : Unpacker) (b : List ℕ) (ended : Bool) (after : List ℕ) (r : Turn) (h : Taken s b ended after r) (so : SoFar s b ended)
@@ -98,12 +99,12 @@ filled_on s b false after r h so going e (got p some hand ee pr) on =
 filled_on s b false after r h so going e (end hand ee pr) on =
     let t = turn s b false in behind_turn s b false after r h so true (left_by t b) (so.0, so.1 ++ t.text, last so.2 e) hand.bytes
     ee
-filled_on s b false after r h so going e (failed pr) on = absurd (failed_on (sym pr ∙ on))
+filled_on s b false after r h so going e (failed why pr) on = absurd (failed_on why (sym pr ∙ on))
 
 filled_over : (b buf : List ℕ) (w : Window) → Filled b buf w → w.progress ≡ Over → ⊥
 filled_over b buf w (got p some hand ee pr) e = over_on (sym e ∙ pr)
 filled_over b buf w (end hand ee pr) e = over_on (sym e ∙ pr)
-filled_over b buf w (failed pr) e = failed_over (sym pr ∙ e)
+filled_over b buf w (failed why pr) e = failed_over why (sym pr ∙ e)
 
 module _ (s : Unpacker) (b : List ℕ) (ended : Bool) (after : List ℕ) (r : Turn) (h : Taken s b ended after r) (so : SoFar s b ended) where
   window : (o : Outcome) → (turn s b ended).outcome ≡ o → Follows (left_by (turn s b ended) b) ended after r.window o

@@ -1,4 +1,5 @@
 -- One turn of the program: a call on the bytes at hand, and a refill of the buffer where it asks for more.
+use Rattle.std.specs.declared.io.Error.{Error}
 use Rattle.std.specs.Prelude.{ℕ, ◌-◌, ◌≤◌, ◌<◌, ◌≡◌, Bool, true, false, List, [], ◌++◌, length}
 use Rattle.lists.specs.Parts.{part, put}
 use Rattle.cause.specs.declared.Verdict.{Verdict}
@@ -26,7 +27,7 @@ pub record AtHand (w : Window) (buf b : List ℕ) : Type 0 where
 pub data Filled (b buf : List ℕ) (w : Window) : Type 0 where
   got : (p : List ℕ) → 0 < length p → AtHand w buf (b ++ p) → w.ended ≡ false → w.progress ≡ On → Filled b buf w
   end : AtHand w buf b → w.ended ≡ true → w.progress ≡ On → Filled b buf w
-  failed : w.progress ≡ Failed → Filled b buf w
+  failed : (e : Error) → w.progress ≡ Failed e → Filled b buf w
 
 -- the window behind a call that has left the bytes b, by its outcome
 abbrev pub Follows : List ℕ → Bool → List ℕ → Window → Outcome → Type 0
@@ -69,5 +70,5 @@ pub record Told (l text : List ℕ) (ended : Bool) : Type 0 where
 abbrev pub Ended : Progress → Type 0
 Ended On = ⊥
 Ended Over = (l : List ℕ) × (text : List ℕ) × (ended : Bool) × Told l text ended
-Ended Failed = Unit {0}
-Ended Unsent = Unit {0}
+Ended (Failed e) = Unit {0}
+Ended (Unsent e) = Unit {0}

@@ -8,16 +8,18 @@ ghost use Rattle.unpacker.specs.Stepping.{min_room};
 ghost use Rattle.unpack.specs.Turns.{held, Filled, Taken, printed, Ended};
 
 use input::{Refill, read_more};
-use libc::STDOUT_FILENO;
+use std::io::{Error, Read, Write};
+use std::process::ExitCode;
 use unpacker::{MIN_ROOM, Outcome, Unpacker};
 
-// What a turn comes to: the next one can go on, the verdict is there, the input could not be read, or the text could not be written.
+// What a turn comes to: the next one can go on, the verdict is there, the input could not be read, or the text could not be written, for
+// this reason.
 #[derive(Clone, Copy)]
 pub enum Progress {
     On,
     Over,
-    Failed,
-    Unsent,
+    Failed(Error),
+    Unsent(Error),
 }
 
 // The bytes at hand, from `at` up to `have` in the buffer, whether the input has ended, and what the turn comes to.
@@ -50,22 +52,33 @@ fn frame(at: usize, have: usize, ended: bool, progress: Progress) -> Window
 }
 
 // Keeps the bytes at hand, and puts behind them what one read gives. The buffer has room, for no call asks for more than 256 bytes.
-fn refill(buf: &mut [u8], at: usize, have: usize) -> Window
+fn refill<R: Read>(input: &mut R, buf: &mut [u8], at: usize, have: usize) -> Window
     requires { (at ≤ have) × (have ≤ length buf.old) }
     ensures { Filled (part at (have - at) buf.old) buf.new result }
 {
     let left = have - at;
-    let refill = read_more(buf, at, have);
+    let refill = read_more(input, buf, at, have);
     match refill {
         Refill::Got(n) => frame(0, n, false, Progress::On),
         Refill::End => frame(0, left, true, Progress::On),
-        Refill::Failed => frame(0, left, false, Progress::Failed),
-        Refill::Full => frame(0, left, false, Progress::Failed),
+        Refill::Failed(error) => frame(0, left, false, Progress::Failed(error)),
+        Refill::Full => frame(
+            0,
+            left,
+            false,
+            Progress::Failed(Error::other("the buffer is full")),
+        ),
     }
 }
 
 // One turn: a call on the bytes at hand, and a refill where it asks for more.
-fn take_turn(unpacker: Unpacker, window: Window, buf: &mut [u8], room: &mut [u8]) -> Turn
+fn take_turn<R: Read>(
+    input: &mut R,
+    unpacker: Unpacker,
+    window: Window,
+    buf: &mut [u8],
+    room: &mut [u8],
+) -> Turn
     requires { (window.at ≤ window.have) × (window.have ≤ length buf.old) × (min_room ≤ length room.old) }
     ensures turn { Taken unpacker (held window buf.old) window.ended buf.new result }
     ensures room { room.new ≡ printed unpacker (held window buf.old) window.ended room.old }
@@ -91,23 +104,28 @@ fn take_turn(unpacker: Unpacker, window: Window, buf: &mut [u8], room: &mut [u8]
         Outcome::More => Turn {
             unpacker: next,
             written: step.written,
-            window: refill(buf, from, have),
+            window: refill(input, buf, from, have),
         },
     }
 }
 
-// Takes turns and prints the text of each, until the verdict is there or a read or a write fails.
-fn unpack_input(buf: &mut [u8], room: &mut [u8]) -> Progress
+// Takes turns and writes the text of each, until the verdict is there or a read or a write fails.
+fn unpack_input<R: Read, W: Write>(
+    input: &mut R,
+    output: &mut W,
+    buf: &mut [u8],
+    room: &mut [u8],
+) -> Progress
     requires { (length buf.old ≡ 65536) × (min_room ≤ length room.old) }
     ensures { Ended result }
 {
     let mut unpacker = Unpacker::fresh();
     let mut window = frame(0, 0, false, Progress::On);
     loop {
-        let turn = take_turn(unpacker, window, buf, room);
+        let turn = take_turn(input, unpacker, window, buf, room);
         let written = turn.written;
-        if !io::write_all(STDOUT_FILENO, &room[0..written]) {
-            return Progress::Unsent;
+        if let Err(error) = output.write_all(&room[0..written]) {
+            return Progress::Unsent(error);
         }
         unpacker = turn.unpacker;
         window = turn.window;
@@ -115,20 +133,25 @@ fn unpack_input(buf: &mut [u8], room: &mut [u8]) -> Progress
         match progress {
             Progress::On => {}
             Progress::Over => return Progress::Over,
-            Progress::Failed => return Progress::Failed,
-            Progress::Unsent => return Progress::Unsent,
+            Progress::Failed(error) => return Progress::Failed(error),
+            Progress::Unsent(error) => return Progress::Unsent(error),
         }
     }
 }
 
-fn main() {
+// Says on standard error what failed and why, and answers the exit status of a failure.
+fn fail(rt: &impl Eprint, stream: &str, error: Error) -> ExitCode {
+    let _ = eprintln!(rt; "unpack: standard {stream}: {error}");
+    ExitCode::FAILURE
+}
+
+fn main(rt: HostRuntime) -> ExitCode {
     let mut buf = io::large_buffer();
     let mut room = [0u8; MIN_ROOM];
-    let progress = unpack_input(&mut buf, &mut room);
-    match progress {
-        Progress::On => {}
-        Progress::Over => {}
-        Progress::Failed => os::fail(b"unpack: standard input"),
-        Progress::Unsent => os::fail(b"unpack: standard output"),
+    match unpack_input(&mut rt.stdin(), &mut rt.stdout(), &mut buf, &mut room) {
+        Progress::On => unreachable!(),
+        Progress::Over => ExitCode::SUCCESS,
+        Progress::Failed(error) => fail(&rt, "input", error),
+        Progress::Unsent(error) => fail(&rt, "output", error),
     }
 }

@@ -19,13 +19,13 @@ const CRATES: [&str; 14] = [
     "writer",
     "pools",
     "ledger",
-    "log",
+    "logs",
     "host",
 ];
 
-/// Whether a line is for the prover or the linker alone.
+/// Whether a line is for the prover alone.
 fn is_left_out(code: &str) -> bool {
-    ["ghost ", "requires ", "ensures ", "#[no_mangle]"].iter().any(|start| code.starts_with(start))
+    ["ghost ", "requires ", "ensures ", "#![tactic(", "#[tactic("].iter().any(|start| code.starts_with(start))
 }
 
 /// What stands for a line that names other modules: all of them lie in one Rust crate.
@@ -45,12 +45,6 @@ fn translate_names(code: &str, file: &Path, name: &str) -> Option<String> {
     })
 }
 
-/// Whether a line begins a struct or an enum.
-fn begins_type(code: &str) -> bool {
-    let code = code.strip_prefix("pub ").unwrap_or(code);
-    code.starts_with("struct ") || code.starts_with("enum ")
-}
-
 /// Whether a line begins a loop, which a count must be able to follow.
 fn begins_loop(code: &str, file: &Path) -> bool {
     let words: Vec<&str> = code.split("//").next().unwrap_or_default().split_whitespace().collect();
@@ -63,7 +57,7 @@ fn begins_loop(code: &str, file: &Path) -> bool {
 
 /// The name of the function whose header begins on a line.
 fn function_name(code: &str) -> Option<&str> {
-    let headers = ["fn ", "pub fn ", "pub(crate) fn ", "pub extern \"C\" fn "];
+    let headers = ["fn ", "pub fn ", "pub(crate) fn "];
     headers.iter().find_map(|start| code.strip_prefix(start))?.split(['(', '<']).next()
 }
 
@@ -78,9 +72,6 @@ fn translate(file: &Path, name: &str) -> String {
         let code = line.trim();
         if is_left_out(code) {
             continue;
-        }
-        if begins_type(code) {
-            lines.push("#[derive(Clone, Copy)]".to_string());
         }
         lines.push(translate_names(code, file, name).unwrap_or_else(|| line.to_string()));
         header = function_name(code).or(header);

@@ -13,7 +13,7 @@ use bench::cause::Verdict;
 use bench::container::Grant;
 use bench::host::c2c_check;
 use bench::ledger::Ledger;
-use bench::log::{LogReader, LogVerdict, Outcome};
+use bench::logs::{LogReader, LogVerdict, Outcome};
 use bench::reader::{Answer as Reading, JudgeAnswer, Reader};
 use bench::slices::is_zero;
 use bench::writer::{Answer as Filling, Writer};
