@@ -1,4 +1,3 @@
-use borrow.Author.Rules.{rules}
 use Rattle.logs.proofs.configuration.start_ledger.Goals as goal
 
 pub returns : goal.returns

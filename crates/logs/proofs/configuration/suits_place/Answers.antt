@@ -1,6 +1,5 @@
 use mathlib.Core.Path.{sym, ◌∙◌}
 use borrow.Author.Tests.{eq-eqb, ne_eqb}
-use borrow.Author.Rules.{rules}
 use Rattle.logs.proofs.configuration.suits_place.Goals as goal
 
 pub returns-then-i-eq0 : goal.returns-then-i-eq0

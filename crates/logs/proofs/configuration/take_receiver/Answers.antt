@@ -3,7 +3,6 @@ use mathlib.Core.Path.{◌≡◌, ◌∙◌}
 use mathlib.Core.List.{List}
 use native.Mathlib.Omega.{arith}
 use lib.ListN.{length}
-use borrow.Author.Rules.{rules}
 use Rattle.lists.specs.Parts.{part}
 use Rattle.lists.proofs.PartLaws.{pad_whole, length_part}
 use Rattle.logs.proofs.configuration.take_receiver.Goals as goal

@@ -1,5 +1,4 @@
 use borrow.Author.Tests.{lt-leb, le-leb, eq-eqb, ne_eqb}
-use borrow.Author.Rules.{rules}
 use Rattle.logs.proofs.log.conclude.Goals as goal
 
 pub returns-then-ended : goal.returns-then-ended

@@ -1,6 +1,5 @@
 use mathlib.Core.Path.{sym, ◌∙◌}
 use Rattle.logs.proofs.LogCalls.{begin_ended, begin_short, begin_long}
-use borrow.Author.Rules.{rules}
 use Rattle.logs.proofs.log.LogReader.begin.Goals as goal
 
 pub returns-then-ended : goal.returns-then-ended

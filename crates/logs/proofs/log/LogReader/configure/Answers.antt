@@ -11,7 +11,6 @@ use Rattle.logs.specs.declared.log.Outcome.{Outcome}
 use Rattle.logs.specs.declared.log.Outcome.TheVariants.{Over}
 use Rattle.logs.proofs.ConfigurationLaws.{told_wrong, told_good}
 use Rattle.logs.proofs.LogCalls.{started_runs}
-use borrow.Author.Rules.{rules}
 use Rattle.logs.proofs.log.LogReader.configure.Goals.{After-start_ledger-ledger}
 use Rattle.logs.proofs.log.LogReader.configure.Goals as goal
 

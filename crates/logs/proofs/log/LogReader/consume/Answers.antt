@@ -2,7 +2,6 @@ use mathlib.Core.Path.{◌≡◌, sym, ap, ◌∙◌}
 use mathlib.Core.Bool.{true}
 use native.Mathlib.Omega.{arith}
 use borrow.Author.Tests.{not-true, not-false}
-use borrow.Author.Rules.{rules}
 use Rattle.logs.specs.Stream.{stopped_at}
 use Rattle.logs.specs.ConcludingMirror.{counts_ok}
 use Rattle.logs.specs.declared.log.Outcome.{Outcome}
