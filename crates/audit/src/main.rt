@@ -9,7 +9,7 @@ ghost use Rattle.text.specs.Lines.{answer_of, room_of};
 ghost use Rattle.audit.specs.Turns.{progress_by, turn_by, Taken, Audited, log_line};
 
 use cause::Verdict;
-use input::{Refill, read_more};
+use input::{Refill, read_more, report_failure};
 use logs::{LogReader, LogVerdict, Outcome};
 use std::io::{Error, Read, Result, Write};
 use std::process::ExitCode;
@@ -142,20 +142,14 @@ fn print_verdict<W: Write>(output: &mut W, verdict: LogVerdict) -> Result<()>
     output.write_all(&room[0..n])
 }
 
-// Says on standard error what failed and why, and answers the exit status of a failure.
-fn fail(rt: &impl Eprint, stream: &str, error: Error) -> ExitCode {
-    let _ = eprintln!(rt; "audit: standard {stream}: {error}");
-    ExitCode::FAILURE
-}
-
 fn main(rt: HostRuntime) -> ExitCode {
     let mut space = io::large_buffer();
     match audit_input(&mut rt.stdin(), &mut space) {
         Progress::Over(verdict) => match print_verdict(&mut rt.stdout(), verdict) {
             Ok(()) => ExitCode::SUCCESS,
-            Err(error) => fail(&rt, "output", error),
+            Err(error) => report_failure(&rt, "audit", "output", error),
         },
-        Progress::Failed(error) => fail(&rt, "input", error),
+        Progress::Failed(error) => report_failure(&rt, "audit", "input", error),
         Progress::On => unreachable!(),
     }
 }

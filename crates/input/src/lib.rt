@@ -1,10 +1,13 @@
 // An input, read through a window: the bytes that are kept, and behind them what one read gives.
 #![tactic(auto)]
 
+mod failure;
+
 ghost use Rattle.std.specs.Prelude.{◌≡◌, ◌-◌, min, length};
 ghost use Rattle.lists.specs.Parts.{part};
 ghost use Rattle.input.specs.Refills.{answered, AtHand, Refilled};
 
+pub use failure::report_failure;
 use slices::move_front;
 use std::io;
 use std::io::{ErrorKind, Read};

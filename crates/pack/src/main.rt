@@ -9,7 +9,7 @@ ghost use Rattle.std.specs.Io.KnownBytes.{Appends};
 ghost use Rattle.pack.specs.Inputs.{Loaded};
 ghost use Rattle.pack.specs.Packing.{pack_output};
 
-use input::{Refill, read_more};
+use input::{Refill, read_more, report_failure};
 use packing::{MAX_OUTPUT, pack_into};
 use std::io::{Error, Read, Result, Write};
 use std::process::ExitCode;
@@ -52,19 +52,13 @@ fn print_packed<W: Write>(output: &mut W, input: &[u8]) -> Result<()>
     output.write_all(&room[0..n])
 }
 
-// Says on standard error what failed and why, and answers the exit status of a failure.
-fn fail(rt: &impl Eprint, stream: &str, error: Error) -> ExitCode {
-    let _ = eprintln!(rt; "pack: standard {stream}: {error}");
-    ExitCode::FAILURE
-}
-
 fn main(rt: HostRuntime) -> ExitCode {
     let mut space = [0u8; MAX_INPUT];
     match read_all(&mut rt.stdin(), &mut space) {
-        Input::Failed(error) => fail(&rt, "input", error),
+        Input::Failed(error) => report_failure(&rt, "pack", "input", error),
         Input::Bytes(have) => match print_packed(&mut rt.stdout(), &space[0..have]) {
             Ok(()) => ExitCode::SUCCESS,
-            Err(error) => fail(&rt, "output", error),
+            Err(error) => report_failure(&rt, "pack", "output", error),
         },
     }
 }

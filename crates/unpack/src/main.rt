@@ -7,7 +7,7 @@ ghost use Rattle.lists.specs.Parts.{part};
 ghost use Rattle.unpacker.specs.Stepping.{min_room};
 ghost use Rattle.unpack.specs.Turns.{held, Filled, Taken, printed, Ended};
 
-use input::{Refill, read_more};
+use input::{Refill, read_more, report_failure};
 use std::io::{Error, Read, Write};
 use std::process::ExitCode;
 use unpacker::{MIN_ROOM, Outcome, Unpacker};
@@ -139,19 +139,13 @@ fn unpack_input<R: Read, W: Write>(
     }
 }
 
-// Says on standard error what failed and why, and answers the exit status of a failure.
-fn fail(rt: &impl Eprint, stream: &str, error: Error) -> ExitCode {
-    let _ = eprintln!(rt; "unpack: standard {stream}: {error}");
-    ExitCode::FAILURE
-}
-
 fn main(rt: HostRuntime) -> ExitCode {
     let mut buf = io::large_buffer();
     let mut room = [0u8; MIN_ROOM];
     match unpack_input(&mut rt.stdin(), &mut rt.stdout(), &mut buf, &mut room) {
         Progress::On => unreachable!(),
         Progress::Over => ExitCode::SUCCESS,
-        Progress::Failed(error) => fail(&rt, "input", error),
-        Progress::Unsent(error) => fail(&rt, "output", error),
+        Progress::Failed(error) => report_failure(&rt, "unpack", "input", error),
+        Progress::Unsent(error) => report_failure(&rt, "unpack", "output", error),
     }
 }
