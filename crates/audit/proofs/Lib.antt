@@ -2,4 +2,3 @@ pub mod OffsetLaws
 pub mod WindowLaws
 pub mod TurnTheorem
 pub mod LoopLaws
-pub mod LineLaws

@@ -3,7 +3,6 @@ use Prim.Native.Nat.{ℕ, ◌+◌, ◌-◌, ◌≤◌, ◌<◌}
 use mathlib.Core.Path.{◌≡◌, refl, sym, ap, subst}
 use mathlib.Core.Bool.{false}
 use mathlib.Core.List.{List, [], ◌++◌}
-use mathlib.Core.Logic.{inl, inr}
 use native.Mathlib.Omega.{arith}
 use lib.ListN.{length, take, length-take}
 use Rattle.lists.specs.Parts.{part}
@@ -12,10 +11,9 @@ use Rattle.logs.specs.Stream.{fresh_reader}
 use Rattle.logs.specs.declared.log.LogReader.{LogReader}
 use Rattle.logs.specs.declared.log.LogVerdict.{LogVerdict}
 use Rattle.logs.proofs.CutTheorem.{consume_within}
-use Rattle.audit.specs.Turns.{Turned, Taken, Turns, none, more, Judged}
-use Rattle.audit.specs.declared.Progress.TheVariants.{On, Over, Failed}
+use Rattle.audit.specs.Turns.{Turned, Turns, none, more, Audited}
+use Rattle.std.specs.Prelude.{None, Some}
 use Rattle.audit.specs.declared.Turn.{Turn}
-use Rattle.std.specs.declared.io.Error.{Error}
 use Rattle.audit.proofs.OffsetLaws.{most_bytes}
 use Rattle.audit.proofs.TurnTheorem.{onward, turns_bounded, turn_less}
 
@@ -44,17 +42,9 @@ module _ (before : List ℕ) (s : LogReader) (at have : ℕ) (h : Between before
   pub few_left : have - at < 261
   few_left = let n = left_length in let few = (turns_bounded h.turns).1 in omega arith
 
-  module _ (window : List ℕ) (r : Turn) where
-    turned : Taken s left window r → ((e : Error) → r.progress ≡ Failed e → ⊥) → Turned s left window r
-    turned (inl f) not-failed = absurd (not-failed f.0 f.1)
-    turned (inr t) not-failed = t
-
-    on_turned : Taken s left window r → r.progress ≡ On → Turned s left window r
-    on_turned t on = turned t (λ error failed. let z : ◌≡◌ {A = ℕ} 0 1 = cc in omega arith)
-
-    pub between_more : Taken s left window r → r.progress ≡ On → Between window r.reader r.at r.have
-    between_more taken on =
-        let t = on_turned taken on in
+  module _ (window : List ℕ) (r : Turn) (t : Turned s left window r) where
+    pub between_more : r.verdict ≡ None → Between window r.reader r.at r.have
+    between_more on =
         let b = left ++ t.read in
         let o = onward s left window r t on in
         let used = consume_within s b false in
@@ -66,22 +56,21 @@ module _ (before : List ℕ) (s : LogReader) (at have : ℕ) (h : Between before
           within = omega (arith, o.end, length-take (length b) window);
         }
 
-    pub measure_less : Taken s left window r → r.progress ≡ On → measure r.reader r.at r.have < measure s at have
-    measure_less taken on = rw left_length at (turn_less h.turns window r (on_turned taken on) on)
+    pub measure_less : r.verdict ≡ None → measure r.reader r.at r.have < measure s at have
+    measure_less on = rw left_length at (turn_less h.turns window r t on)
 
-    pub judged : Taken s left window r → (v : LogVerdict) → r.progress ≡ Over v → (l : List ℕ) × Judged l v
-    judged taken v over =
-        let t = turned taken (λ error failed. let z : ◌≡◌ {A = ℕ} 0 1 = cc in omega arith) in (
-          h.l ++ t.read,
-          record {
-            before = h.l;
-            left = left;
-            window = window;
-            s = s;
-            r = r;
-            turns = h.turns;
-            last = t;
-            over = over;
-            all = refl;
-          },
-        )
+    pub judged : (v : LogVerdict) → r.verdict ≡ Some v → Audited v
+    judged v over = (
+      h.l ++ t.read,
+      record {
+        before = h.l;
+        left = left;
+        window = window;
+        s = s;
+        r = r;
+        turns = h.turns;
+        last = t;
+        over = over;
+        all = refl;
+      },
+    )

@@ -9,29 +9,18 @@ use lib.ListN.{length, take, drop, length-append, length-drop, take-append-drop}
 use lib.Seq.{drop-append-le, take_at}
 use lib.Dec.{eqb}
 use borrow.Author.Tests.{eqb-true, eqb-false, ne_eqb, eq-eqb}
+use Rattle.std.specs.Prelude.{None, Some}
 use Rattle.lists.proofs.Tests.{cases}
 use Rattle.logs.specs.Log.{log_verdict}
-use Rattle.logs.specs.Stream.{max_entries, consuming, verdict_from}
+use Rattle.logs.specs.Stream.{max_entries, consuming, verdict_from, Outcome}
 use Rattle.logs.specs.Cutting.{told}
 use Rattle.logs.specs.declared.log.LogReader.{LogReader}
 use Rattle.logs.specs.declared.log.LogVerdict.{LogVerdict}
-use Rattle.logs.specs.declared.log.Outcome.{Outcome}
-use Rattle.logs.specs.declared.log.Outcome.TheVariants as outcome
+use Rattle.logs.specs.Stream as outcome
 use Rattle.logs.proofs.CutTheorem.{consume_ended, consume_cut, consume_within, consume_short, fresh_verdict}
-use Rattle.audit.specs.Turns.{progress_by, turn_by, left_by, Turned, Turns, none, more, Judged}
-use Rattle.audit.specs.declared.Progress.TheVariants.{On, Over}
+use Rattle.audit.specs.Turns.{turn_by, left_by, Turned, Turns, none, more, Judged}
 use Rattle.audit.specs.declared.Turn.{Turn}
 use Rattle.audit.proofs.OffsetLaws.{most_bytes, consume_counted}
-
--- ---- by the outcome of a call
-
-more_by : (o : Outcome) → progress_by o ≡ On → o ≡ outcome.More
-more_by outcome.More e = refl
-more_by (outcome.Over v) e = let z : ◌≡◌ {A = ℕ} 0 1 = cc in absurd (omega arith)
-
-over_by : (o : Outcome) (v : LogVerdict) → progress_by o ≡ Over v → o ≡ outcome.Over v
-over_by outcome.More v e = let z : ◌≡◌ {A = ℕ} 0 1 = cc in absurd (omega arith)
-over_by (outcome.Over w) v e = cc
 
 -- ---- one turn
 
@@ -42,12 +31,12 @@ module _ (s : LogReader) (left window : List ℕ) (r : Turn) (t : Turned s left 
   called : (ended : Bool) → eqb (length t.read) 0 ≡ ended → r ≡ turn_by (length b) (consuming s b ended)
   called ended e = t.call ∙ ap (λ (x : Bool). turn_by (length b) (consuming s b x)) e
 
-  outcome_by : (ended : Bool) → eqb (length t.read) 0 ≡ ended → r.progress ≡ progress_by (consuming s b ended).outcome
-  outcome_by ended e = ap (λ (x : Turn). x.progress) (called ended e)
+  outcome_by : (ended : Bool) → eqb (length t.read) 0 ≡ ended → r.verdict ≡ (consuming s b ended).outcome
+  outcome_by ended e = ap (λ (x : Turn). x.verdict) (called ended e)
 
   -- where the log has ended, the call gives the verdict
-  ended_over : eqb (length t.read) 0 ≡ true → r.progress ≡ Over (verdict_from s b)
-  ended_over e = outcome_by true e ∙ ap progress_by (consume_ended s b)
+  ended_over : eqb (length t.read) 0 ≡ true → r.verdict ≡ Some (verdict_from s b)
+  ended_over e = outcome_by true e ∙ consume_ended s b
 
   -- a turn that goes on has read something, and leaves what its call has not used
   abbrev pub used : ℕ
@@ -60,21 +49,20 @@ module _ (s : LogReader) (left window : List ℕ) (r : Turn) (t : Turned s left 
     pub start : r.at ≡ used
     pub end : r.have ≡ length b
 
-  onward_by : r.progress ≡ On → (ended : Bool) → eqb (length t.read) 0 ≡ ended → Onward
+  onward_by : r.verdict ≡ None → (ended : Bool) → eqb (length t.read) 0 ≡ ended → Onward
   onward_by on true e =
-      let over : r.progress ≡ Over (verdict_from s b) = ended_over e in
-      let z : ◌≡◌ {A = ℕ} 0 1 = cc in
-      absurd (omega arith)
+      let over : r.verdict ≡ Some (verdict_from s b) = ended_over e in
+      cc
   onward_by on false e =
       record {
         some = eqb-false (length t.read) 0 e;
-        asks = more_by (consuming s b false).outcome (sym (outcome_by false e) ∙ on);
+        asks = sym (outcome_by false e) ∙ on;
         state = ap (λ (x : Turn). x.reader) (called false e);
         start = ap (λ (x : Turn). x.at) (called false e);
         end = ap (λ (x : Turn). x.have) (called false e);
       }
 
-  pub onward : r.progress ≡ On → Onward
+  pub onward : r.verdict ≡ None → Onward
   onward on = onward_by on (eqb (length t.read) 0) refl
 
   left_is : Onward → left_by window r ≡ drop used b
@@ -98,18 +86,18 @@ module _ (s : LogReader) (left window : List ℕ) (r : Turn) (t : Turned s left 
       ∙ ap (verdict_from s) (append_assoc left t.read m)
 
   -- the verdict of a turn
-  over_verdict : (v : LogVerdict) → r.progress ≡ Over v → (length t.read ≡ 0 → ⊥) → (m : List ℕ)
+  over_verdict : (v : LogVerdict) → r.verdict ≡ Some v → (length t.read ≡ 0 → ⊥) → (m : List ℕ)
       → v ≡ verdict_from s (left ++ (t.read ++ m))
   over_verdict v over some m =
       let e : (consuming s b false).outcome ≡ outcome.Over v =
-      over_by (consuming s b false).outcome v (sym (outcome_by false (ne_eqb (length t.read) 0 some)) ∙ over) in
+      sym (outcome_by false (ne_eqb (length t.read) 0 some)) ∙ over in
       sym (ap (λ (x : Outcome). told x (verdict_from (consuming s b false).reader (drop used b ++ m))) e)
       ∙ sym (consume_cut s b m)
       ∙ ap (verdict_from s) (append_assoc left t.read m)
 
-  ended_verdict : (v : LogVerdict) → r.progress ≡ Over v → length t.read ≡ 0 → v ≡ verdict_from s (left ++ (t.read ++ []))
+  ended_verdict : (v : LogVerdict) → r.verdict ≡ Some v → length t.read ≡ 0 → v ≡ verdict_from s (left ++ (t.read ++ []))
   ended_verdict v over empty =
-      let e : r.progress ≡ Over (verdict_from s b) = ended_over (eq-eqb (length t.read) 0 empty) in
+      let e : r.verdict ≡ Some (verdict_from s b) = ended_over (eq-eqb (length t.read) 0 empty) in
       let same : v ≡ verdict_from s b = cc in
       same ∙ ap (λ (l : List ℕ). verdict_from s (left ++ l)) (sym (append-nil t.read))
 
@@ -162,7 +150,7 @@ turns_bounded (more {l} {left} {s} ts window r t on) =
 
 -- the bytes used and left, of which there are more behind each turn
 pub turn_less : {l left : List ℕ} {s : LogReader} → Turns l s left → (window : List ℕ) (r : Turn) → Turned s left window r
-    → r.progress ≡ On → (most_bytes + 261) - (r.reader.offset + (r.have - r.at)) < (most_bytes + 261) - (s.offset + length left)
+    → r.verdict ≡ None → (most_bytes + 261) - (r.reader.offset + (r.have - r.at)) < (most_bytes + 261) - (s.offset + length left)
 turn_less {l} {left} {s} ts window r t on =
     let o = onward s left window r t on in
     let b = left ++ t.read in

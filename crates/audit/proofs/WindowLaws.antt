@@ -8,6 +8,7 @@ use lib.ListN.{length, take, drop, take-append-drop, length-drop}
 use lib.Seq.{take-take, length-take-le}
 use lib.Dec.{eqb}
 use borrow.Author.Tests.{ne_eqb}
+use Rattle.std.specs.Prelude.{Ok}
 use Rattle.input.specs.Refills.{Refilled}
 use Rattle.input.specs.declared.Refill.TheVariants.{Got, End}
 use Rattle.logs.specs.Stream.{consuming}
@@ -31,7 +32,7 @@ module _ (s : LogReader) (left before window : List ℕ) (r : Turn) where
       }
 
   -- bytes were read: the window's first n are those left and these
-  pub turned_got : (n : ℕ) → Refilled left before window (Got n)
+  pub turned_got : (n : ℕ) → Refilled left before window (Ok (Got n))
       → r ≡ turn_by (length (take (n - 0) window)) (consuming s (take (n - 0) window) false) → Turned s left window r
   turned_got n h e =
       let read = drop (length left) (take n window) in
@@ -44,7 +45,7 @@ module _ (s : LogReader) (left before window : List ℕ) (r : Turn) where
       turned_by n false read fits same (ne_eqb (length read) 0 some) e
 
   -- nothing was read
-  pub turned_end : (n : ℕ) → Refilled left before window End → n ≡ length left
+  pub turned_end : (n : ℕ) → Refilled left before window (Ok End) → n ≡ length left
       → r ≡ turn_by (length (take (n - 0) window)) (consuming s (take (n - 0) window) true) → Turned s left window r
   turned_end n h k e =
       let room : length left < length window = h.more in

@@ -4,26 +4,17 @@
 ghost use Rattle.std.specs.Prelude.{◌≡◌, true, ◌≤◌, get_or};
 ghost use Rattle.ledger.specs.Audit.{ledger_ok};
 ghost use Rattle.ledger.specs.Run.{halted, run_over};
-ghost use Rattle.audit_probe.specs.Audit.{max_run, receiver_from, numbers_ok, new_ledger_from, cause_of, place_of, run_from, report_from, report_number};
+ghost use Rattle.audit_probe.specs.Audit.{max_run, receiver_from, numbers_ok, plain_ledger_from, new_ledger_from, cause_of, place_of, run_from, report_from, report_number};
 
-use cause::{Cause, Verdict, number_cause};
+use cause::{Cause, Fault, Verdict, number_cause};
 use container::CONTAINER;
 use frame::{Framed, frame_entry};
-use ledger::{Created, Ledger, Reported, Run};
+use ledger::{Ledger, Report, Run};
 use pools::{ROW, Receiver};
+use slices::item_or;
 
 // The most entries of a run.
 const MAX_RUN: u32 = 4294967295;
-
-// The number at i, 0 behind the end.
-fn number_at(numbers: &[u32], i: usize) -> u32
-    ensures { result ≡ get_or numbers.now i 0 }
-{
-    if i < numbers.len() {
-        return numbers[i];
-    }
-    0
-}
 
 // The receiver whose numbers stand from `at` on.
 fn load_receiver(numbers: &[u32], at: usize) -> Receiver
@@ -31,14 +22,12 @@ fn load_receiver(numbers: &[u32], at: usize) -> Receiver
     ensures { result ≡ receiver_from numbers.now at }
 {
     let mut capacities = [0u32; ROW];
-    let mut p: usize = 0;
-    while p < ROW {
-        capacities[p] = number_at(numbers, at + 2 + p);
-        p += 1;
+    for p in 0..ROW {
+        capacities[p] = item_or(numbers, at + 2 + p, 0);
     }
     Receiver {
-        planes: number_at(numbers, at),
-        push: number_at(numbers, at + 1) == 1,
+        planes: item_or(numbers, at, 0),
+        push: item_or(numbers, at + 1, 0) == 1,
         capacities: capacities,
     }
 }
@@ -56,22 +45,30 @@ fn are_numbers(numbers: &[u32]) -> bool
     numbers[18] < 2
 }
 
-// The fresh ledger of a format and two receivers, and whether they are valid.
-fn load_ledger(numbers: &[u32]) -> Created
+// The ledger of the numbers of a format and two receivers, with nothing carried, held or open.
+fn load_ledger(numbers: &[u32]) -> Ledger
+    ensures { result ≡ plain_ledger_from numbers.now }
+{
+    let format = item_or(numbers, 0, 0);
+    Ledger::empty(
+        format,
+        load_receiver(numbers, 1),
+        load_receiver(numbers, 17),
+    )
+}
+
+// The fresh ledger of the numbers of a configuration.
+fn start_ledger(numbers: &[u32]) -> Result<Ledger, Fault>
     ensures { result ≡ new_ledger_from numbers.now }
 {
-    let format = number_at(numbers, 0);
-    let receiver0 = load_receiver(numbers, 1);
-    let receiver1 = load_receiver(numbers, 17);
-    let created = Ledger::fresh(format, receiver0, receiver1);
-    if are_numbers(numbers) {
-        return created;
+    if !are_numbers(numbers) {
+        return Err(Cause::InvalidState.at(0));
     }
-    let ledger = created.ledger;
-    Created {
-        ledger: ledger,
-        verdict: Verdict::Refused(Cause::InvalidState, 0),
-    }
+    Ledger::fresh(
+        numbers[0],
+        load_receiver(numbers, 1),
+        load_receiver(numbers, 17),
+    )
 }
 
 // A run that stops behind so many accepted entries and bytes.
@@ -86,23 +83,13 @@ fn stop_run(ledger: Ledger, accepted: u32, used: usize, answer: Verdict) -> Run
     }
 }
 
-// A ledger that is refused before any entry.
-fn refuse_run(ledger: Ledger, cause: Cause, place: u64) -> Run
-    ensures { result ≡ halted ledger 0 0 (Verdict.Refused cause place) }
-{
-    stop_run(ledger, 0, 0, Verdict::Refused(cause, place))
-}
-
 // The entries audited by the one call that takes them all.
 fn run_entries(numbers: &[u32], entries: &[u8]) -> Run
     ensures { result ≡ run_from numbers.now entries.now }
 {
-    let created = load_ledger(numbers);
-    let ledger = created.ledger;
-    let verdict = created.verdict;
-    match verdict {
-        Verdict::Refused(cause, place) => refuse_run(ledger, cause, place),
-        Verdict::Accepted => ledger.audit_entries(entries, MAX_RUN),
+    match start_ledger(numbers) {
+        Err(fault) => stop_run(load_ledger(numbers), 0, 0, Err(fault)),
+        Ok(ledger) => ledger.audit_entries(entries, MAX_RUN),
     }
 }
 
@@ -115,39 +102,35 @@ fn run_each(first: Ledger, entries: &[u8]) -> Run
     let mut count: u32 = 0;
     let mut at: usize = 0;
     while count < MAX_RUN {
-        let framed = frame_entry(&entries[at..]);
         let Framed::Whole {
             number: _,
             direction,
             start,
-        } = framed
+        } = frame_entry(&entries[at..])
         else {
-            return stop_run(ledger, count, at, Verdict::Accepted);
+            return stop_run(ledger, count, at, Ok(()));
         };
         let begin = at + start;
         let end = begin + CONTAINER;
         let step = ledger.audit(direction as u32, &entries[begin..end]);
         let answer = step.answer;
-        if let Verdict::Refused(_, _) = answer {
-            return stop_run(ledger, count, at, answer);
+        if let Err(fault) = answer {
+            return stop_run(ledger, count, at, Err(fault));
         }
         ledger = step.ledger;
         count += 1;
         at = end;
     }
-    stop_run(ledger, count, at, Verdict::Accepted)
+    stop_run(ledger, count, at, Ok(()))
 }
 
 // The entries audited by a call each, from the ledger of the numbers.
 fn run_calls(numbers: &[u32], entries: &[u8]) -> Run
     ensures { result ≡ run_from numbers.now entries.now }
 {
-    let created = load_ledger(numbers);
-    let ledger = created.ledger;
-    let verdict = created.verdict;
-    match verdict {
-        Verdict::Refused(cause, place) => refuse_run(ledger, cause, place),
-        Verdict::Accepted => run_each(ledger, entries),
+    match start_ledger(numbers) {
+        Err(fault) => stop_run(load_ledger(numbers), 0, 0, Err(fault)),
+        Ok(ledger) => run_each(ledger, entries),
     }
 }
 
@@ -155,10 +138,9 @@ fn run_calls(numbers: &[u32], entries: &[u8]) -> Run
 fn tell_cause(run: Run) -> u32
     ensures { result ≡ cause_of run.answer }
 {
-    let answer = run.answer;
-    match answer {
-        Verdict::Accepted => 0,
-        Verdict::Refused(cause, _) => number_cause(cause),
+    match run.answer {
+        Ok(()) => 0,
+        Err(fault) => number_cause(fault.cause),
     }
 }
 
@@ -180,11 +162,9 @@ pub fn c2c_audit_each(numbers: &[u32], entries: &[u8]) -> u32
 pub fn c2c_audit_place(numbers: &[u32], entries: &[u8]) -> u64
     ensures { result ≡ place_of (run_from numbers.now entries.now).answer }
 {
-    let run = run_entries(numbers, entries);
-    let answer = run.answer;
-    match answer {
-        Verdict::Accepted => 0,
-        Verdict::Refused(_, place) => place,
+    match run_entries(numbers, entries).answer {
+        Ok(()) => 0,
+        Err(fault) => fault.place,
     }
 }
 
@@ -205,21 +185,17 @@ pub fn c2c_audit_used(numbers: &[u32], entries: &[u8]) -> usize
 }
 
 // The report of a direction and pool behind the entries.
-fn report_entries(numbers: &[u32], entries: &[u8], direction: u32, pool: u32) -> Reported
+fn report_entries(
+    numbers: &[u32],
+    entries: &[u8],
+    direction: u32,
+    pool: u32,
+) -> Result<Report, Fault>
     ensures { result ≡ report_from numbers.now entries.now direction pool }
 {
-    let created = load_ledger(numbers);
-    let verdict = created.verdict;
-    match verdict {
-        Verdict::Refused(cause, place) => Reported::Refused {
-            cause: cause,
-            place: place,
-        },
-        Verdict::Accepted => {
-            let run = run_entries(numbers, entries);
-            let ledger = run.ledger;
-            ledger.report(direction, pool)
-        }
+    match start_ledger(numbers) {
+        Err(fault) => Err(fault),
+        Ok(_) => run_entries(numbers, entries).ledger.report(direction, pool),
     }
 }
 
@@ -227,9 +203,8 @@ fn report_entries(numbers: &[u32], entries: &[u8], direction: u32, pool: u32) ->
 pub fn c2c_audit_report(numbers: &[u32], entries: &[u8], direction: u32, pool: u32) -> u64
     ensures { result ≡ report_number (report_from numbers.now entries.now direction pool) }
 {
-    let reported = report_entries(numbers, entries, direction, pool);
-    match reported {
-        Reported::Refused { cause, place: _ } => number_cause(cause) as u64 * 281474976710656,
-        Reported::Accepted { held, opened } => { (held.0 as u64) * 4294967296 + (opened.0 as u64) }
+    match report_entries(numbers, entries, direction, pool) {
+        Err(fault) => number_cause(fault.cause) as u64 * 281474976710656,
+        Ok(report) => (report.held.0 as u64) * 4294967296 + (report.opened.0 as u64),
     }
 }

@@ -6,9 +6,8 @@ use mathlib.Core.List.{List, [], ◌∷◌, ◌++◌}
 use mathlib.Core.Logic.{⊎_elim, ◌↔◌}
 use native.Mathlib.Omega.{arith}
 use Rattle.lists.proofs.Tests.{cases}
-use Rattle.cause.specs.Checks.{Check, first_fault, Pass, or_else}
-use Rattle.cause.specs.declared.Verdict.{Verdict}
-use Rattle.cause.specs.declared.Verdict.TheVariants.{Accepted, Refused}
+use Rattle.cause.specs.Checks.{Check, first_fault, Pass, or_else, Verdict, Accepted, Refused}
+use Rattle.std.specs.Prelude.{Ok, Err}
 
 pub pass_accepted : (l : List Check) → Pass l → first_fault l ≡ Accepted
 pass_accepted [] p = refl
@@ -36,8 +35,8 @@ first_append (k ∷ l) b =
 
 -- both verdicts are sound where the second behind the first is
 pub both_accepted : (a b : Verdict) → or_else a b ≡ Accepted → (a ≡ Accepted) × (b ≡ Accepted)
-both_accepted Accepted b e = (refl, e)
-both_accepted (Refused c p) b e = let z : ◌≡◌ {A = ℕ} 0 1 = cc in absurd (omega arith)
+both_accepted (Ok _) b e = (refl, e)
+both_accepted (Err fault) b e = let z : ◌≡◌ {A = ℕ} 0 1 = cc in absurd (omega arith)
 
 -- two lists of checks pass where both do
 pub pass_append : (a b : List Check) → Pass a → Pass b → Pass (a ++ b)

@@ -9,10 +9,10 @@ use Rattle.lists.proofs.Tests.{cases, not_true_false}
 use Rattle.cause.specs.Causes.{cause_number}
 use Rattle.cause.specs.declared.Cause.{Cause}
 use Rattle.cause.specs.declared.Cause.TheVariants.{InvalidState}
-use Rattle.cause.specs.declared.Verdict.{Verdict}
-use Rattle.cause.specs.declared.Verdict.TheVariants.{Accepted, Refused}
 use Rattle.cause.proofs.CauseLaws.{same_number}
+use Rattle.cause.proofs.FaultLaws.{refused_by, refused_at}
 use Rattle.cause.specs.Order.{rank, Named, None}
+use Rattle.cause.specs.Checks.{Verdict, Accepted, Refused}
 
 -- 19 at place 0 where a test fails
 abbrev pub verdict_of : Bool → Verdict
@@ -36,8 +36,8 @@ module _ (b : Bool) (F : ℕ → ℕ → Type 0) (to : b ≡ false → F 19 0) (
 
           same : Refused InvalidState 0 ≡ Refused k p → Named F k p
           same f =
-              let x : InvalidState ≡ k = cc in
-              let y : 0 ≡ p = cc in
+              let x = refused_by _ _ _ _ f in
+              let y = refused_at _ _ _ _ f in
               subst (λ (i : Cause). Named F i p) x (subst (Named F InvalidState) y (to (failing k p e), λ j q g l. let z = least j q g in omega arith))
 
       refused : Named F k p → verdict_of b ≡ Refused k p

@@ -1,9 +1,23 @@
 -- Checks in order: the first that fails gives its cause and place.
-use Rattle.std.specs.Prelude.{ℕ, ◌≡◌, Bool, true, false, List, [], ◌∷◌}
+use Rattle.std.specs.Prelude.{ℕ, ◌≡◌, Bool, true, false, List, [], ◌∷◌, Result, Ok, Err, ⊤}
 use Rattle.lists.specs.Pick.{pick}
 use Rattle.cause.specs.declared.Cause.{Cause}
-use Rattle.cause.specs.declared.Verdict.{Verdict}
-use Rattle.cause.specs.declared.Verdict.TheVariants.{Accepted, Refused}
+use Rattle.cause.specs.declared.Fault.{Fault}
+
+-- what a list of checks finds: nothing, or the first fault
+abbrev pub Verdict : Type 0
+Verdict = Result ⊤ Fault
+
+abbrev pub Accepted : Verdict
+Accepted = Ok tt
+
+abbrev pub Refused : Cause → ℕ → Verdict
+Refused c p = Err (record { cause = c; place = p })
+
+-- a, or the fault of the verdict
+abbrev pub given : {A : Type 0} → Verdict → A → Result A Fault
+given (Ok _) a = Ok a
+given (Err fault) a = Err fault
 
 -- a test, and the cause and place that its failure gives
 pub record Check : Type 0 where
@@ -16,18 +30,18 @@ check b c p = record { passes = b; cause = c; place = p }
 
 -- a where the verdict is an acceptance, else b
 abbrev pub when_accepted : {A : Type 0} → Verdict → A → A → A
-when_accepted Accepted a b = a
-when_accepted (Refused c p) a b = b
+when_accepted (Ok _) a b = a
+when_accepted (Err fault) a b = b
 
 -- a verdict, and another where it is an acceptance
 abbrev pub or_else : Verdict → Verdict → Verdict
-or_else Accepted v = v
-or_else (Refused c p) v = Refused c p
+or_else (Ok _) v = v
+or_else (Err fault) v = Err fault
 
 -- a verdict is an acceptance
 abbrev pub passes : Verdict → Bool
-passes Accepted = true
-passes (Refused c p) = false
+passes (Ok _) = true
+passes (Err fault) = false
 
 -- the first check that fails
 abbrev pub first_fault : List Check → Verdict

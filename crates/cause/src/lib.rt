@@ -5,7 +5,7 @@ ghost use Rattle.std.specs.Prelude.{◌≡◌};
 ghost use Rattle.cause.specs.Causes.{cause_number};
 
 // Why an input is refused: one variant for each number of the table of causes, in its order.
-#[derive(Clone, Copy)]
+#[derive(Clone, Copy, Debug, PartialEq, Eq)]
 pub enum Cause {
     ContainerLength,
     RoomTooSmall,
@@ -32,11 +32,26 @@ pub enum Cause {
 // The place of the header where the place is a granule.
 pub const HEADER_PLACE: u64 = 12;
 
-// What a list of checks finds: nothing, or the first cause with its place.
-#[derive(Clone, Copy)]
-pub enum Verdict {
-    Accepted,
-    Refused(Cause, u64),
+// A cause of refusal and its place.
+#[derive(Clone, Copy, Debug, PartialEq, Eq)]
+pub struct Fault {
+    pub cause: Cause,
+    pub place: u64,
+}
+
+// What a list of checks finds: nothing, or the first fault.
+pub type Verdict = Result<(), Fault>;
+
+impl Cause {
+    // The fault of this cause at a place.
+    pub fn at(self, place: u64) -> Fault
+        ensures { result ≡ record { cause = self; place = place } }
+    {
+        Fault {
+            cause: self,
+            place: place,
+        }
+    }
 }
 
 // The number of a cause in the table.

@@ -8,7 +8,7 @@ use native.Mathlib.Omega.{arith}
 use native.Mathlib.Nat.{zero-add}
 use borrow.Author.Tests.{eqb-true, eq-eqb, ne_eqb, not-true}
 use lib.ListN.{length, get_or, take, drop, length-drop}
-use lib.Seq.{drop-drop}
+use lib.Seq.{drop-drop, take_all}
 use lib.Dec.{T, eqb}
 use Rattle.lists.specs.Pick.{pick}
 use Rattle.lists.specs.Parts.{part, zeros}
@@ -82,16 +82,18 @@ module _ (link : ℕ → Bool) where
         idle_off n (drop a c) a no_link
         ∙ rw (drop-drop n a c, idle_on k (drop (a + n) c) (a + n) (λ i b. T_true (link ((a + n) + i)) (below_at k (λ i. link ((a + n) + i)) on i b)), drop-drop k (a + n) c)
 
-    idle_last : length c ≡ a + n → idle_from link (drop a c) a ≡ zeros (drop a c)
-    idle_last e = idle_plain (drop a c) a (λ i b. no_link i (omega (arith, rw (length-drop a c) at b)))
+    idle_last : length c ≡ a + n → idle_from link (drop a c) a ≡ zeros (part a n c)
+    idle_last e =
+        idle_plain (drop a c) a (λ i b. no_link i (omega (arith, rw (length-drop a c) at b)))
+        ∙ ap zeros (sym (take_all n (drop a c) (rw (length-drop a c) (omega arith))))
 
 -- format X: bytes 60-63, 124 and 125 are its link header
-pub idle_x : (c : List ℕ) → length c ≡ 256 → idle_from link_x c 0 ≡ (zeros (part 0 60 c) && (zeros (part 64 60 c) && zeros (drop 126 c)))
+pub idle_x : (c : List ℕ) → length c ≡ 256 → idle_from link_x c 0 ≡ (zeros (part 0 60 c) && (zeros (part 64 60 c) && zeros (part 126 130 c)))
 idle_x c n = idle_span link_x c 0 60 tt 4 tt ∙ rw (idle_span link_x c 64 60 tt 2 tt, idle_last link_x c 126 130 tt n)
 
 -- format Y: bytes 60-63, 120-127, 188-191 and 242-245 are its link header
 pub idle_y : (c : List ℕ) → length c ≡ 256
-    → idle_from link_y c 0 ≡ (zeros (part 0 60 c) && (zeros (part 64 56 c) && (zeros (part 128 60 c) && (zeros (part 192 50 c) && zeros (drop 246 c)))))
+    → idle_from link_y c 0 ≡ (zeros (part 0 60 c) && (zeros (part 64 56 c) && (zeros (part 128 60 c) && (zeros (part 192 50 c) && zeros (part 246 10 c)))))
 idle_y c n =
     idle_span link_y c 0 60 tt 4 tt
     ∙ rw (idle_span link_y c 64 56 tt 8 tt, idle_span link_y c 128 60 tt 4 tt, idle_span link_y c 192 50 tt 4 tt, idle_last link_y c 246 10 tt n)

@@ -6,7 +6,7 @@ ghost use Rattle.container.specs.Grants.{grant_of, header_grant, plane_allowed, 
 use crate::layout::read_header;
 
 // A grant: ShC, RP and the REQ, RSP, SNP and DAT counts (terms of document 01).
-#[derive(Clone, Copy)]
+#[derive(Clone, Copy, Debug, PartialEq, Eq)]
 pub struct Grant {
     pub shc: bool,
     pub rp: u8,
@@ -23,10 +23,10 @@ pub fn decode_grant(first: u8, req: u8, rsp: u8, snp: u8, dat: u8) -> Grant
     Grant {
         shc: first % 2 == 1,
         rp: first / 2 % 8,
-        req: req,
-        rsp: rsp,
-        snp: snp,
-        dat: dat,
+        req,
+        rsp,
+        snp,
+        dat,
     }
 }
 
@@ -46,53 +46,30 @@ pub fn read_grant(format: u32, container: &[u8]) -> Grant
 pub fn allows_plane(grant: Grant) -> bool
     ensures { result ≡ plane_allowed grant }
 {
-    if grant.shc {
-        return grant.rp == 0;
-    }
-    true
+    !grant.shc || grant.rp == 0
 }
 
 // Whether a byte may be the first of a grant form.
 pub fn is_form(first: u8) -> bool
     ensures { result ≡ form_ok first }
 {
-    if first < 16 {
-        return allows_plane(decode_grant(first, 0, 0, 0, 0));
-    }
-    false
+    first < 16 && allows_plane(decode_grant(first, 0, 0, 0, 0))
 }
 
 // Whether one of the four counts is not zero.
 pub fn has_counts(grant: Grant) -> bool
     ensures { result ≡ not (no_counts grant) }
 {
-    if grant.req != 0 {
-        return true;
-    }
-    if grant.rsp != 0 {
-        return true;
-    }
-    if grant.snp != 0 {
-        return true;
-    }
-    grant.dat != 0
+    grant.req != 0 || grant.rsp != 0 || grant.snp != 0 || grant.dat != 0
 }
 
 // Whether the reserved bits of a container's header are zero.
 pub fn keeps_reserved(format: u32, container: &[u8]) -> bool
     ensures { result ≡ reserved_ok (format_of format) container.now }
 {
-    if 16 <= read_header(format, container, 1) {
-        return false;
-    }
-    if 16 <= read_header(format, container, 2) {
-        return false;
-    }
-    if read_header(format, container, 7) != 0 {
-        return false;
-    }
-    if read_header(format, container, 8) != 0 {
-        return false;
-    }
-    read_header(format, container, 9) == 0
+    read_header(format, container, 1) < 16
+        && read_header(format, container, 2) < 16
+        && read_header(format, container, 7) == 0
+        && read_header(format, container, 8) == 0
+        && read_header(format, container, 9) == 0
 }

@@ -4,6 +4,9 @@ ghost use Rattle.container.specs.Layout.{start, format_of, header, msg_start, bi
 
 use slices::byte_at;
 
+// One above the largest format.
+pub const FORMATS: u32 = 2;
+
 // The bytes of a container.
 pub const CONTAINER: usize = 256;
 

@@ -10,6 +10,6 @@ pub use grant::{
 };
 pub use idle::is_idle;
 pub use layout::{
-    CONTAINER, GRANULES, WIDE, locate_granule, locate_header, measure_granule, read_header,
-    read_msgstart, start_bit, starts_at,
+    CONTAINER, FORMATS, GRANULES, WIDE, locate_granule, locate_header, measure_granule,
+    read_header, read_msgstart, start_bit, starts_at,
 };

@@ -11,12 +11,11 @@ use borrow.Author.Tests.{eq-eqb, eqb-true, eqb-false, lt-ltb, ltb-true, ltb-fals
 use Rattle.lists.specs.Parts.{IsBytes}
 use Rattle.lists.specs.Pick.{pick}
 use Rattle.lists.proofs.Tests.{cases, never_both, not_true_false, and_left, and_right, and_both, and_false}
+use Rattle.cause.proofs.FaultLaws.{refused_by, refused_at}
 use Rattle.cause.specs.Causes.{cause_number}
-use Rattle.cause.specs.Checks.{first_fault, when_accepted}
+use Rattle.cause.specs.Checks.{first_fault, when_accepted, Verdict, Refused}
 use Rattle.cause.specs.declared.Cause.{Cause}
 use Rattle.cause.specs.declared.Cause.TheVariants.{InvalidState}
-use Rattle.cause.specs.declared.Verdict.{Verdict}
-use Rattle.cause.specs.declared.Verdict.TheVariants.{Accepted, Refused}
 use Rattle.cause.proofs.CauseLaws.{same_number, number_some}
 use Rattle.container.specs.declared.grant.Grant.{Grant}
 use Rattle.reader.specs.Reading.{reader_with, read_checks, judge_checks, reading, read_room, judging}
@@ -31,7 +30,6 @@ use Rattle.ledger.specs.Run.{halted}
 use Rattle.ledger.specs.RunRules.{RunRule}
 use Rattle.ledger.specs.ValidLedger.{ValidLedger}
 use Rattle.pools.specs.declared.receiver.Receiver.{Receiver}
-use Rattle.ledger.specs.declared.ledger.Reported.TheVariants as report
 use Rattle.ledger.proofs.RunRuleLaws.{run_follows}
 use Rattle.ledger.proofs.ValidLedgerLaws.{configured_exactly, ledger_exactly}
 use Rattle.writer.specs.Filling.{fill_bytes}
@@ -59,6 +57,7 @@ use Rattle.reader.proofs.ReadTable.{read_refused, read_accepted, judge_refused, 
 use Rattle.writer.proofs.FillTable.{fill_refused}
 use Rattle.cause.proofs.VerdictLaws.{verdict_refused}
 use Rattle.demands.proofs.Refusals.{untouched}
+use Rattle.std.specs.Prelude.{Ok, Err, Option}
 
 -- ---- codes of cause·65,536 + place
 
@@ -97,8 +96,8 @@ check_refused f c room k p =
     (λ x. r.0 (t.0 x), λ n. t.1 (r.1 n))
 
 read_zero : (v : Verdict) (n : ℕ) (g : Grant) → check.code_of (reads.answer_of v n g) ≡ 0 → reads.answer_of v n g ≡ read.Accepted n g
-read_zero Accepted n g e = refl
-read_zero (Refused j q) n g e = let m = number_some j in absurd (omega arith)
+read_zero (Ok _) n g e = refl
+read_zero (Err fault) n g e = let m = number_some fault.cause in absurd (omega arith)
 
 check_accepted : (f : ℕ) (c : List ℕ) (room : ℕ) → (check_code f c room ≡ 0) ↔ None (ReadFault (reader_with f []) c room)
 unfolding check_code reading
@@ -107,8 +106,8 @@ check_accepted f c room =
     (λ e. r.0 (read_zero (first_fault (read_checks (reader_with f []) c room)) _ _ e), λ n. ap check.code_of (r.1 n))
 
 read_room_law : (v : Verdict) (n : ℕ) (g : Grant) (a b : List ℕ) → (check.code_of (reads.answer_of v n g) ≡ 0 → ⊥) → when_accepted v a b ≡ b
-read_room_law Accepted n g a b h = absurd (h refl)
-read_room_law (Refused j q) n g a b h = refl
+read_room_law (Ok _) n g a b h = absurd (h refl)
+read_room_law (Err fault) n g a b h = refl
 
 check_memory : (f : ℕ) (c room : List ℕ) → (check_code f c (length room) ≡ 0 → ⊥) → check_room f c room ≡ room
 unfolding check_code check_room reading read_room
@@ -135,8 +134,8 @@ judging_refused f c k p =
     (λ x. r.0 (t.0 x), λ n. t.1 (r.1 n))
 
 judge_zero : (v : Verdict) (g : Grant) (s : ℕ) → judged.code_of (reads.judge_answer_of v g s) ≡ 0 → reads.judge_answer_of v g s ≡ judge.Accepted g s
-judge_zero Accepted g s e = refl
-judge_zero (Refused j q) g s e = let m = number_some j in absurd (omega arith)
+judge_zero (Ok _) g s e = refl
+judge_zero (Err fault) g s e = let m = number_some fault.cause in absurd (omega arith)
 
 judging_accepted : (f : ℕ) (c : List ℕ) → (judge_code f c ≡ 0) ↔ None (JudgeFault (reader_with f []) c)
 unfolding judge_code judging
@@ -235,8 +234,8 @@ module _ (f n : ℕ) (t b l : List ℕ) where
           let place : 0 ≡ p = omega arith in
           ap (λ (i : Cause). Refused i 0) (same_number InvalidState k same) ∙ ap (Refused k) place,
       λ e.
-          let x : InvalidState ≡ k = cc in
-          let y : 0 ≡ p = cc in
+          let x = refused_by _ _ _ _ e in
+          let y = refused_at _ _ _ _ e in
           subst (λ (i : Cause). Tells 4_294_967_296 (19 * 4_294_967_296) i p) x (subst (Tells 4_294_967_296 (19 * 4_294_967_296) InvalidState) y (omega arith, omega arith)),
     )
 
@@ -284,7 +283,7 @@ module _ (f n : ℕ) (t b l : List ℕ) where
 
 -- ---- `c2c_feed`
 
-feed_refused : (f : ℕ) (n responses others room : List ℕ) (w : Waiting) (k : Cause) (p : ℕ) → (asking f n responses others (length room)).answer ≡ ask.Refused w k p
+feed_refused : (f : ℕ) (n responses others room : List ℕ) (w : Option Waiting) (k : Cause) (p : ℕ) → (asking f n responses others (length room)).answer ≡ ask.Refused w k p
     → Told (ask.Refused w k p) (length (fed_part f responses others (feed_from n))) (feed_code f n responses others (length room))
     × (feed_numbers f n responses others (length room) ≡ n) × (feed_room f n responses others room ≡ room)
 feed_refused f n responses others room w k p e =
@@ -342,13 +341,13 @@ module _ (l e : List ℕ) where
     report_by_cases h true q = rw (configures h, q)
     report_by_cases h false q = rw (configures h, q) (sym none_there)
       where
-        none_there : reported (ledger_from l) d p ≡ report.Refused InvalidState 0
+        none_there : reported (ledger_from l) d p ≡ Err (record { cause = InvalidState; place = 0 })
         none_there = rw (not_true_false (ledger_ok (ledger_from l)) (λ t. never_both q (described ((ledger_exactly (ledger_from l)).0 t))), and_false (ltb p 14), and_false (ltb d 2))
 
     report_behind : Configures l → report_from l e d p ≡ reported (run_from l e).ledger d p
     report_behind h = report_by_cases h (configured fm first second) refl
 
-    report_numbers : (Configures l → ⊥) → report_from l e d p ≡ report.Refused InvalidState 0
+    report_numbers : (Configures l → ⊥) → report_from l e d p ≡ Err (record { cause = InvalidState; place = 0 })
     unfolding report_from
     report_numbers h = rw (not_true_false (numbers_ok l) (λ t. h (numbers t)))
 

@@ -4,9 +4,7 @@ use mathlib.Core.Path.{◌≡◌, refl, sym, ap, subst, ◌∙◌}
 use mathlib.Core.Bool.{true}
 use mathlib.Core.List.{List}
 use lib.ListN.{length, get_or}
-use Rattle.cause.specs.Checks.{first_fault, when_accepted}
-use Rattle.cause.specs.declared.Verdict.{Verdict}
-use Rattle.cause.specs.declared.Verdict.TheVariants.{Accepted, Refused}
+use Rattle.cause.specs.Checks.{first_fault, when_accepted, Verdict}
 use Rattle.reader.specs.declared.reader.Reader.{Reader}
 use Rattle.ledger.specs.Audit.{receiver_of, reader_of, held_of, open_of, ledger_ok, configured, audit_checks, next_ledger, auditing, held_after, open_after, reported}
 use Rattle.logs.specs.Log.{receiver_at, ledger_of}
@@ -31,6 +29,7 @@ use Rattle.demands.specs.Interleaving.{SameEnd, SameTraffic, last_ledger, Interl
 use Rattle.demands.proofs.TapLaws.{lawful}
 use Rattle.demands.proofs.Simulation.{number_below, of_number, reported_held, reported_open, Related, simulates}
 use Rattle.demands.proofs.LogTap.{ran, valid_by}
+use Rattle.std.specs.Prelude.{Ok, Err}
 
 -- both tables of a ledger have 28 entries
 abbrev Long : Ledger → Type 0
@@ -41,8 +40,8 @@ unfolding auditing next_ledger
 next_long l n c h = by (first_fault (audit_checks l n c))
   where
     by : (v : Verdict) → Long (when_accepted v (next_ledger l n c) l)
-    by Accepted = (length_table (held_after l n c), length_table (open_after l n c))
-    by (Refused k p) = h
+    by (Ok _) = (length_table (held_after l n c), length_table (open_after l n c))
+    by (Err fault) = h
 
 ledger_alike : (l m : Ledger) → l.format ≡ m.format → l.receiver0 ≡ m.receiver0 → l.receiver1 ≡ m.receiver1 → SameEnd l m → l ≡ m
 ledger_alike l m f a b s = λ i. record {

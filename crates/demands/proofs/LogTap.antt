@@ -9,7 +9,7 @@ use mathlib.Core.Logic.{⊎_elim, inl, inr}
 use mathlib.Core.Option.{Option, some}
 use lib.ListN.{get_or, drop}
 use Rattle.lists.proofs.Tests.{never_both}
-use Rattle.cause.specs.Checks.{passes}
+use Rattle.cause.specs.Checks.{passes, Refused}
 use Rattle.cause.specs.declared.Cause.{Cause}
 use Rattle.ledger.specs.Audit.{configured, auditing}
 use Rattle.logs.specs.Log.{receiver_at}
@@ -30,7 +30,6 @@ use Rattle.history.proofs.Calls.{direction_is}
 use Rattle.demands.specs.Tap.{link_of, auditor_of}
 use Rattle.demands.specs.LogTap.{tap_of, link_at, LogTapped, LogNotTapped, LogDemand}
 use Rattle.demands.proofs.Simulation.{of_number, closed}
-use Rattle.cause.specs.declared.Verdict.TheVariants.{Refused}
 
 -- the entries of a log have a direction
 abbrev Sided : List log.Entry → Type 0

@@ -2,10 +2,8 @@
 use Prim.Native.Nat.{ℕ}
 use mathlib.Core.Path.{◌≡◌}
 use lib.ListN.{length}
-use Rattle.cause.specs.Checks.{when_accepted, first_fault}
+use Rattle.cause.specs.Checks.{when_accepted, first_fault, Verdict, Refused}
 use Rattle.cause.specs.declared.Cause.{Cause}
-use Rattle.cause.specs.declared.Verdict.{Verdict}
-use Rattle.cause.specs.declared.Verdict.TheVariants.{Refused}
 use Rattle.container.specs.Layout.{format_of, msg_start}
 use Rattle.container.specs.Grants.{header_grant}
 use Rattle.reader.specs.Reading.{read_checks, judge_checks, records, reading, read_room, judging}

@@ -10,9 +10,7 @@ use borrow.Author.Tests.{lt-ltb, le-ltb}
 use Rattle.lists.specs.Pick.{pick}
 use Rattle.lists.proofs.ZeroLaws.{zeros_at, zeros_replicate}
 use Rattle.lists.proofs.Tests.{never_both, not_true_false, same_test, and_left, and_right, and_both}
-use Rattle.cause.specs.Checks.{Pass, first_fault, when_accepted, passes}
-use Rattle.cause.specs.declared.Verdict.{Verdict}
-use Rattle.cause.specs.declared.Verdict.TheVariants.{Accepted, Refused}
+use Rattle.cause.specs.Checks.{Pass, first_fault, when_accepted, passes, Verdict}
 use Rattle.container.specs.Layout.{format_of}
 use Rattle.container.specs.Grants.{header_grant}
 use Rattle.message.specs.Charges.{charges}
@@ -23,9 +21,7 @@ use Rattle.ledger.specs.Audit.{receiver_of, reader_of, held_of, open_of, ledger_
 use Rattle.ledger.specs.Audit as audit
 use Rattle.pools.specs.declared.receiver.Receiver.{Receiver}
 use Rattle.ledger.specs.declared.ledger.Ledger.{Ledger}
-use Rattle.pools.specs.declared.kinds.Credits.{Credits}
-use Rattle.pools.specs.declared.kinds.Slots.{Slots}
-use Rattle.ledger.specs.declared.ledger.Reported.TheVariants as report
+use Rattle.ledger.specs.declared.ledger.Report.{Report}
 use Rattle.ledger.proofs.ValidLaws.{ValidDirection, ledger_valid, valid_ledger}
 use Rattle.ledger.proofs.AcceptedLaws.{AcceptedEntry, accepted_by, entry_checks_accepted, held_own, held_other, open_own, open_other, reader_own, reader_other, receivers_kept, next_ledger_valid}
 use Rattle.ledger.proofs.FreshLaws.{fresh_valid}
@@ -43,6 +39,7 @@ use Rattle.ledger.specs.Entries.{cells_in, starts_in, ends_in}
 use Rattle.demands.specs.Tap.{grants_from}
 use Rattle.demands.specs.Tap.{receiver_for, link_of, held_in, open_in, auditor_of}
 use Rattle.demands.proofs.TapLaws.{reads_by, by_reads, passes_accepted, receiver_valid, lawful}
+use Rattle.std.specs.Prelude.{Ok, Err}
 
 -- ---- directions and numbers
 pub number_below : (d : Direction) → number_of d < 2
@@ -95,12 +92,12 @@ unfolding auditing
 next_refused l n c e = by (first_fault (audit_checks l n c)) e
   where
     by : (v : Verdict) → passes v ≡ false → when_accepted v (next_ledger l n c) l ≡ l
-    by Accepted t = absurd (never_both t refl)
-    by (Refused k p) t = refl
+    by (Ok _) t = absurd (never_both t refl)
+    by (Err fault) t = refl
 
 -- what a valid ledger reports within its pools, and any past them
 module _ (l : Ledger) (n p : ℕ) (h : n < 2) where
-  pub reported_counts : ledger_ok l ≡ true → p < 14 → reported l n p ≡ report.Accepted (record { 0 = held_of l n p }) (record { 0 = open_of l n p })
+  pub reported_counts : ledger_ok l ≡ true → p < 14 → reported l n p ≡ Ok (record { held = record { 0 = held_of l n p }; opened = record { 0 = open_of l n p } })
   reported_counts v k = rw (lt-ltb n 2 h, lt-ltb p 14 k, v)
 
   pub reported_held : ledger_ok l ≡ true → p < 14 → held_in (reported l n p) ≡ held_of l n p
@@ -410,5 +407,5 @@ closed f a b v xs = audit_closes (link_of f a b) (lawful f a b v) (auditor_of f 
 
 -- and no report of theirs is refused
 pub reports : (f : ℕ) (a b : Receiver) → configured f a b ≡ true → (xs : Trace (Call (List ℕ))) (d : Direction) (p : ℕ) → p < 14
-    → (held : Credits) × (opened : Slots) × (reported (after (auditor_of f a b) xs) (number_of d) p ≡ report.Accepted held opened)
-reports f a b v xs d p h = (_, _, reported_counts (after (auditor_of f a b) xs) (number_of d) p (number_below d) (calls_valid f a b v xs) h)
+    → (report : Report) × (reported (after (auditor_of f a b) xs) (number_of d) p ≡ Ok report)
+reports f a b v xs d p h = (_, reported_counts (after (auditor_of f a b) xs) (number_of d) p (number_below d) (calls_valid f a b v xs) h)

@@ -12,10 +12,8 @@ use borrow.Author.Tests.{eqb-true, ltb-true, leb-true, eq-eqb, ne_eqb}
 use Rattle.lists.specs.Pick.{pick}
 use Rattle.lists.proofs.PickLaws.{pick_both}
 use Rattle.lists.proofs.Tests.{cases, and_left, and_right, and_both}
-use Rattle.cause.specs.Checks.{Pass, first_fault, passes}
+use Rattle.cause.specs.Checks.{Pass, first_fault, passes, Verdict, Accepted}
 use Rattle.cause.specs.declared.Cause.TheVariants.{MissingPool, MissingGrantPool}
-use Rattle.cause.specs.declared.Verdict.{Verdict}
-use Rattle.cause.specs.declared.Verdict.TheVariants.{Accepted, Refused}
 use Rattle.cause.proofs.CheckLaws.{accepted_pass, pass_accepted, pass_front, pass_back, pass_append}
 use Rattle.container.specs.Layout.{format_of}
 use Rattle.container.specs.Grants.{header_grant}
@@ -38,11 +36,12 @@ use Rattle.history.specs.Link.{Direction, direction0, direction1, opposite, Link
 use Rattle.ledger.specs.Entries.{cells_in, starts_in}
 use Rattle.demands.specs.Tap.{grants_from}
 use Rattle.demands.specs.Tap.{receiver_for, rule_checks, link_of}
+use Rattle.std.specs.Prelude.{Ok, Err}
 
 -- a verdict that passes is sound
 pub passes_accepted : (v : Verdict) → passes v ≡ true → v ≡ Accepted
-passes_accepted Accepted e = refl
-passes_accepted (Refused k p) e = let z : ◌≡◌ {A = Bool} false true = e in absurd (let y : ◌≡◌ {A = ℕ} 0 1 = cc in omega arith)
+passes_accepted (Ok _) e = refl
+passes_accepted (Err fault) e = let z : ◌≡◌ {A = Bool} false true = e in absurd (let y : ◌≡◌ {A = ℕ} 0 1 = cc in omega arith)
 
 pub accepted_passes : (v : Verdict) → v ≡ Accepted → passes v ≡ true
 accepted_passes v e = rw e

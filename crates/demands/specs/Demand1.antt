@@ -1,32 +1,30 @@
 -- Demand 1: a refusal changes no state and no byte of lent memory, and names the cause and the place of the table; that every input is
 -- answered, and that every call ends, is in the contracts, since no public entry has a `requires`.
-use Rattle.std.specs.Prelude.{ℕ, ◌≡◌, Bool, List, [], ◌↔◌, length}
+use Rattle.std.specs.Prelude.{ℕ, ◌≡◌, Bool, List, [], ◌↔◌, length, Err, Ok, Option}
 use Rattle.lists.specs.Parts.{IsBytes}
 use Rattle.cause.specs.declared.Cause.{Cause}
 use Rattle.cause.specs.declared.Cause.TheVariants.{MissingPool, MissingGrantPool}
-use Rattle.cause.specs.declared.Verdict.TheVariants.{Accepted, Refused}
 use Rattle.container.specs.Layout.{format_of, msg_start}
 use Rattle.container.specs.Grants.{header_grant}
 use Rattle.container.specs.declared.grant.Grant.{Grant}
 use Rattle.record.specs.Records.{list_fault}
-use Rattle.reader.specs.Reading.{records, reading, read_room, judging}
+use Rattle.reader.specs.Reading.{reader_with, records, reading, read_room, judging}
 use Rattle.reader.specs.Reading as reader
 use Rattle.reader.specs.declared.reader.Reader.{Reader}
 use Rattle.reader.specs.declared.reader.Answer.TheVariants as read
 use Rattle.reader.specs.declared.reader.JudgeAnswer.TheVariants as judge
-use Rattle.ledger.specs.Audit.{held_of, open_of, new_ledger, auditing, reported}
+use Rattle.ledger.specs.Audit.{held_of, open_of, fresh_ledger, new_ledger, auditing, reported}
 use Rattle.ledger.specs.Run.{run_over}
 use Rattle.ledger.specs.RunRules.{RunRule}
 use Rattle.logs.specs.Stream.{consuming}
 use Rattle.logs.specs.LogRules.{Consumes}
 use Rattle.pools.specs.declared.receiver.Receiver.{Receiver}
-use Rattle.ledger.specs.declared.ledger.Reported.TheVariants as report
 use Rattle.ledger.specs.declared.entries.Run.{Run}
 use Rattle.logs.specs.declared.log.LogReader.{LogReader}
 use Rattle.logs.specs.declared.log.Consumed.{Consumed}
 use Rattle.ledger.specs.declared.ledger.Ledger.{Ledger}
 use Rattle.writer.specs.Laying.{used_of}
-use Rattle.writer.specs.Filling.{tail_of, filling, fill_bytes}
+use Rattle.writer.specs.Filling.{tail_of, writer_with, filling, fill_bytes}
 use Rattle.writer.specs.Filling as writer
 use Rattle.writer.specs.declared.writer.Writer.{Writer}
 use Rattle.writer.specs.declared.writer.Answer.TheVariants as fill
@@ -42,6 +40,7 @@ use Rattle.writer.specs.Faults.{ListFault, FillFault}
 use Rattle.demands.specs.Faults.{FormatFault}
 use Rattle.demands.specs.Hosts.{Hosts}
 use Rattle.cause.specs.Order.{Named, None}
+use Rattle.cause.specs.Checks.{Accepted, Refused}
 
 -- "A refusal changes no state and no byte of lent memory"
 pub record Untouched : Type 0 where
@@ -56,8 +55,8 @@ pub record Untouched : Type 0 where
   -- the audit, with any ledger, any direction number and any container; it lends no memory
   pub audit_state : (s : Ledger) (d : ℕ) (c : List ℕ) (k : Cause) (p : ℕ) → (auditing s d c).answer ≡ Refused k p → (auditing s d c).ledger ≡ s
   -- the feeder, with any lists and any feed; a refusal hands out no byte of them
-  pub ask_state : (f : ℕ) (responses others : List ℕ) (s : Feed) (w : Waiting) (k : Cause) (p : ℕ) → (feeding f responses others s).answer ≡ ask.Refused w k p → (feeding f responses others s).feed ≡ s
-  pub ask_part : (f : ℕ) (responses others : List ℕ) (s : Feed) (w : Waiting) (k : Cause) (p : ℕ) → (feeding f responses others s).answer ≡ ask.Refused w k p → fed_part f responses others s ≡ []
+  pub ask_state : (f : ℕ) (responses others : List ℕ) (s : Feed) (w : Option Waiting) (k : Cause) (p : ℕ) → (feeding f responses others s).answer ≡ ask.Refused w k p → (feeding f responses others s).feed ≡ s
+  pub ask_part : (f : ℕ) (responses others : List ℕ) (s : Feed) (w : Option Waiting) (k : Cause) (p : ℕ) → (feeding f responses others s).answer ≡ ask.Refused w k p → fed_part f responses others s ≡ []
 
 -- "A bad one is refused with a cause and a place from the fixed table": with those of a row that holds and that no row of a lower rank
 -- comes before; what no row holds of is accepted
@@ -82,17 +81,17 @@ pub record TableOfCauses : Type 0 where
   pub list_refused : (l : List ℕ) → IsBytes l → (k : Cause) (p : ℕ) → (list_fault l ≡ Refused k p) ↔ Named (ListFault l) k p
   pub list_accepted : (l : List ℕ) → IsBytes l → (list_fault l ≡ Accepted) ↔ None (ListFault l)
   -- a new reader and a new writer, with any format number
-  pub reader_refused : (f : ℕ) (k : Cause) (p : ℕ) → ((reader.new_reader f).verdict ≡ Refused k p) ↔ Named (FormatFault f) k p
-  pub reader_accepted : (f : ℕ) → ((reader.new_reader f).verdict ≡ Accepted) ↔ None (FormatFault f)
-  pub writer_refused : (f : ℕ) (k : Cause) (p : ℕ) → ((writer.new_writer f).verdict ≡ Refused k p) ↔ Named (FormatFault f) k p
-  pub writer_accepted : (f : ℕ) → ((writer.new_writer f).verdict ≡ Accepted) ↔ None (FormatFault f)
+  pub reader_refused : (f : ℕ) (k : Cause) (p : ℕ) → (reader.new_reader f ≡ Err (record { cause = k; place = p })) ↔ Named (FormatFault f) k p
+  pub reader_accepted : (f : ℕ) → (reader.new_reader f ≡ Ok (reader_with f [])) ↔ None (FormatFault f)
+  pub writer_refused : (f : ℕ) (k : Cause) (p : ℕ) → (writer.new_writer f ≡ Err (record { cause = k; place = p })) ↔ Named (FormatFault f) k p
+  pub writer_accepted : (f : ℕ) → (writer.new_writer f ≡ Ok (writer_with f [])) ↔ None (FormatFault f)
   -- a new ledger, with any format number and any receivers
-  pub new_ledger_refused : (f : ℕ) (a b : Receiver) (k : Cause) (p : ℕ) → ((new_ledger f a b).verdict ≡ Refused k p) ↔ Named (FreshFault f a b) k p
-  pub new_ledger_accepted : (f : ℕ) (a b : Receiver) → ((new_ledger f a b).verdict ≡ Accepted) ↔ None (FreshFault f a b)
+  pub new_ledger_refused : (f : ℕ) (a b : Receiver) (k : Cause) (p : ℕ) → (new_ledger f a b ≡ Err (record { cause = k; place = p })) ↔ Named (FreshFault f a b) k p
+  pub new_ledger_accepted : (f : ℕ) (a b : Receiver) → (new_ledger f a b ≡ Ok (fresh_ledger f a b)) ↔ None (FreshFault f a b)
   -- the report of any ledger, direction and pool number
-  pub report_refused : (s : Ledger) (d p : ℕ) (k : Cause) (q : ℕ) → (reported s d p ≡ report.Refused k q) ↔ Named (ReportFault s d p) k q
+  pub report_refused : (s : Ledger) (d p : ℕ) (k : Cause) (q : ℕ) → (reported s d p ≡ Err (record { cause = k; place = q })) ↔ Named (ReportFault s d p) k q
   pub report_counted : (s : Ledger) (d p : ℕ)
-      → (reported s d p ≡ report.Accepted (record { 0 = held_of s d p }) (record { 0 = open_of s d p })) ↔ None (ReportFault s d p)
+      → (reported s d p ≡ Ok (record { held = record { 0 = held_of s d p }; opened = record { 0 = open_of s d p } })) ↔ None (ReportFault s d p)
 
 -- "a message and a grant come from different sides of the books" (document 02, K1): whose pool is missing, by the cause of a refusal
 pub record MissingPools : Type 0 where

@@ -1,13 +1,11 @@
 -- Demand 3: the audit accepts exactly the tap records of histories, and its books close over every list of calls.
-use Rattle.std.specs.Prelude.{ℕ, ◌<◌, ◌≡◌, true, List}
+use Rattle.std.specs.Prelude.{ℕ, ◌<◌, ◌≡◌, true, List, Ok}
 use Rattle.record.specs.Records.{records_of}
 use Rattle.reader.specs.Reading.{records}
 use Rattle.reader.specs.declared.reader.Reader.{Reader}
 use Rattle.ledger.specs.Audit.{configured, reported}
 use Rattle.pools.specs.declared.receiver.Receiver.{Receiver}
-use Rattle.pools.specs.declared.kinds.Credits.{Credits}
-use Rattle.pools.specs.declared.kinds.Slots.{Slots}
-use Rattle.ledger.specs.declared.ledger.Reported.TheVariants.{Accepted}
+use Rattle.ledger.specs.declared.ledger.Report.{Report}
 use Rattle.history.specs.Trace.{Trace}
 use Rattle.history.specs.Link.{Direction, number_of}
 use Rattle.history.specs.Calls.{Call, after}
@@ -24,7 +22,7 @@ pub record Demand3 : Type 1 where
   pub books_close : (f : ℕ) (a b : Receiver) → configured f a b ≡ true → (xs : Trace (Call (List ℕ))) → Closed (link_of f a b) (auditor_of f a b) xs
   -- "At the start and after every call, the audit reports for each direction and pool": no such report is refused
   pub reports : (f : ℕ) (a b : Receiver) → configured f a b ≡ true → (xs : Trace (Call (List ℕ))) (d : Direction) (p : ℕ) → p < 14
-      → (held : Credits) × (opened : Slots) × (reported (after (auditor_of f a b) xs) (number_of d) p ≡ Accepted held opened)
+      → (report : Report) × (reported (after (auditor_of f a b) xs) (number_of d) p ≡ Ok report)
   -- "Containers keep the rules above for bytes, heads and placement and these for pools", and what is counted in them is what they pay and
   -- grant
   pub rules : LinkRules

@@ -1,5 +1,5 @@
 -- The entries for C by the table: each tells in one number what the entry behind it answers, and a refusal leaves every byte lent as it was.
-use Rattle.std.specs.Prelude.{ℕ, ◌/◌, ◌%◌, ◌≤◌, ◌<◌, ◌≡◌, List, [], ◌⊎◌, ◌↔◌, length, get_or}
+use Rattle.std.specs.Prelude.{ℕ, ◌/◌, ◌%◌, ◌≤◌, ◌<◌, ◌≡◌, List, [], ◌⊎◌, ◌↔◌, length, get_or, Err, Option}
 use Rattle.lists.specs.Parts.{IsBytes}
 use Rattle.cause.specs.Causes.{cause_number}
 use Rattle.cause.specs.declared.Cause.{Cause}
@@ -9,7 +9,6 @@ use Rattle.ledger.specs.Audit.{fresh_ledger, reported}
 use Rattle.ledger.specs.Run.{halted}
 use Rattle.ledger.specs.RunRules.{RunRule}
 use Rattle.ledger.specs.declared.ledger.Ledger.{Ledger}
-use Rattle.ledger.specs.declared.ledger.Reported.TheVariants as report
 use Rattle.feeder.specs.Feeding.{fed_part}
 use Rattle.feeder.specs.declared.found.Waiting.{Waiting}
 use Rattle.feeder.specs.declared.feed.Answer.TheVariants as ask
@@ -21,7 +20,7 @@ use Rattle.audit_probe.specs.Audit.{max_run, receiver_from, run_from, report_fro
 use Rattle.reader.specs.Faults.{ReadFault, JudgeFault}
 use Rattle.writer.specs.Faults.{FillFault}
 use Rattle.cause.specs.Order.{Named, None}
-use Rattle.cause.specs.declared.Verdict.TheVariants.{Refused}
+use Rattle.cause.specs.Checks.{Refused}
 
 -- a code of cause·unit + place tells a cause and a place
 abbrev pub Tells : ℕ → ℕ → Cause → ℕ → Type 0
@@ -55,7 +54,7 @@ pub record Hosts : Type 0 where
   pub fill_memory : (f n : ℕ) (t b l c : List ℕ) → 4_294_967_296 ≤ fill_code f n t b l (length c)
       → (fill_tail f n t b l (length c) ≡ t) × (fill_container f n t b l c ≡ c)
   -- `c2c_feed`: cause, list and place, told by one number
-  pub feed_refused : (f : ℕ) (n responses others room : List ℕ) (w : Waiting) (k : Cause) (p : ℕ) → (asking f n responses others (length room)).answer ≡ ask.Refused w k p
+  pub feed_refused : (f : ℕ) (n responses others room : List ℕ) (w : Option Waiting) (k : Cause) (p : ℕ) → (asking f n responses others (length room)).answer ≡ ask.Refused w k p
       → Told (ask.Refused w k p) (length (fed_part f responses others (feed_from n))) (feed_code f n responses others (length room))
       × (feed_numbers f n responses others (length room) ≡ n) × (feed_room f n responses others room ≡ room)
   -- `c2c_audit` and its like: by the rules of a run from the fresh ledger; numbers that describe none are 19
@@ -63,4 +62,4 @@ pub record Hosts : Type 0 where
   pub audit_numbers : (l e : List ℕ) → (Configures l → ⊥) → run_from l e ≡ halted (ledger_from l) 0 0 (Refused InvalidState 0)
   -- `c2c_audit_report`
   pub report_behind : (l e : List ℕ) (d p : ℕ) → Configures l → report_from l e d p ≡ reported (run_from l e).ledger d p
-  pub report_numbers : (l e : List ℕ) (d p : ℕ) → (Configures l → ⊥) → report_from l e d p ≡ report.Refused InvalidState 0
+  pub report_numbers : (l e : List ℕ) (d p : ℕ) → (Configures l → ⊥) → report_from l e d p ≡ Err (record { cause = InvalidState; place = 0 })

@@ -14,7 +14,7 @@ use Rattle.history.specs.Interleaving.{SameContainers}
 use Rattle.demands.specs.Tap.{held_in, open_in, auditor_of}
 use Rattle.demands.specs.LogTap.{tap_of}
 use Rattle.demands.specs.Marked.{with_bytes, receiver_with, grants_responses, grants_data, data_at_g9}
-use Rattle.cause.specs.declared.Verdict.TheVariants.{Refused}
+use Rattle.cause.specs.Checks.{Refused}
 
 -- "the same credits held, open messages and carries in every pool", field by field
 pub record SameEnd (l m : Ledger) : Type 0 where

@@ -1,12 +1,11 @@
 -- The marked examples of document 01, M1 to M10, as one statement about the definitions.
-use Rattle.std.specs.Prelude.{ℕ, ◌≡◌, true, List, [], ◌∷◌, ◌++◌, replicate, set}
+use Rattle.std.specs.Prelude.{ℕ, ◌≡◌, true, List, [], ◌∷◌, ◌++◌, replicate, set, Ok, Err}
 use Rattle.cause.specs.Causes.{cause_number}
 use Rattle.container.specs.Layout.{format_of, granule}
 use Rattle.container.specs.Grants.{grant_of}
 use Rattle.container.specs.declared.grant.Grant.{Grant}
-use Rattle.record.specs.Number.{number, read_number}
+use Rattle.record.specs.Number.{number, read_number, Broken, Value}
 use Rattle.record.specs.Records.{records_of}
-use Rattle.record.specs.declared.number.Number.TheVariants.{Broken, Value}
 use Rattle.reader.specs.Reading.{reader_with, reading, records}
 use Rattle.reader.specs.declared.reader.Answer as reader
 use Rattle.reader.specs.declared.reader.Answer.TheVariants as read
@@ -15,8 +14,7 @@ use Rattle.ledger.specs.Audit.{fresh_ledger, auditing}
 use Rattle.pools.specs.declared.receiver.Receiver.{Receiver}
 use Rattle.ledger.specs.declared.ledger.Ledger.{Ledger}
 use Rattle.history.specs.Calls.{Call}
-use Rattle.cause.specs.declared.Verdict.{Verdict}
-use Rattle.cause.specs.declared.Verdict.TheVariants.{Accepted, Refused}
+use Rattle.cause.specs.Checks.{Verdict}
 
 -- a container of zeros but for some bytes, each given by its place and value
 abbrev pub with_bytes : List (ℕ × ℕ) → List ℕ
@@ -33,8 +31,8 @@ read_told (read.Accepted n grant) = (0, 0)
 read_told (read.Refused k p) = (cause_number k, p)
 
 abbrev pub audit_told : Verdict → ℕ × ℕ
-audit_told Accepted = (0, 0)
-audit_told (Refused k p) = (cause_number k, p)
+audit_told (Ok _) = (0, 0)
+audit_told (Err fault) = (cause_number fault.cause, fault.place)
 
 -- the answers to calls one after the other, each with the ledger that the last one handed back
 abbrev pub answers_to : Ledger → List (Call (List ℕ)) → List (ℕ × ℕ)

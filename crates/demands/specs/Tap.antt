@@ -1,5 +1,5 @@
 -- The bench's own reader and pools as a link, and its audit as the audit of that link (document 01, "Pools and the audit").
-use Rattle.std.specs.Prelude.{ℕ, ◌&&◌, List, [], length, get_or, eqb}
+use Rattle.std.specs.Prelude.{ℕ, ◌&&◌, List, [], length, get_or, eqb, Result, Ok, Err}
 use Rattle.cause.specs.Checks.{Check, first_fault, passes}
 use Rattle.message.specs.Charges.{charges}
 use Rattle.container.specs.Layout.{format_of, container_size}
@@ -11,10 +11,10 @@ use Rattle.ledger.specs.Entries.{starts_in, ends_in, grants_of, checks_then}
 use Rattle.ledger.specs.Audit.{fresh_ledger, auditing, reported}
 use Rattle.pools.specs.declared.receiver.Receiver.{Receiver}
 use Rattle.ledger.specs.declared.ledger.Ledger.{Ledger}
-use Rattle.ledger.specs.declared.ledger.Reported.{Reported}
-use Rattle.ledger.specs.declared.ledger.Reported.TheVariants as report
+use Rattle.ledger.specs.declared.ledger.Report.{Report}
 use Rattle.history.specs.Link.{Direction, direction0, direction1, number_of, opposite, Link}
 use Rattle.history.specs.Calls.{Auditor}
+use Rattle.cause.specs.declared.Fault.{Fault}
 
 abbrev pub grants_from : Reader → List ℕ → List Grant
 grants_from s c = grants_of (format_of s.format) c (starts_in s c)
@@ -46,13 +46,13 @@ link_of f a b = record {
 }
 
 -- the credits held and the messages open that a report tells, 0 where it is refused
-abbrev pub held_in : Reported → ℕ
-held_in (report.Accepted held opened) = held.0
-held_in (report.Refused k p) = 0
+abbrev pub held_in : Result Report Fault → ℕ
+held_in (Ok report) = report.held.0
+held_in (Err _) = 0
 
-abbrev pub open_in : Reported → ℕ
-open_in (report.Accepted held opened) = opened.0
-open_in (report.Refused k p) = 0
+abbrev pub open_in : Result Report Fault → ℕ
+open_in (Ok report) = report.opened.0
+open_in (Err _) = 0
 
 -- the audit: the code's own ledger, what `audit` answers, and what `report` reports
 abbrev pub auditor_of : ℕ → Receiver → Receiver → Auditor (List ℕ)

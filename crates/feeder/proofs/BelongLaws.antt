@@ -15,7 +15,7 @@ use Rattle.message.specs.Kinds.{rsp, pays_by, pays}
 use Rattle.feeder.specs.Due.{response_by, belongs_by}
 use Rattle.feeder.specs.Rules.{Belongs}
 use Rattle.feeder.specs.declared.found.Waiting.{Waiting}
-use Rattle.feeder.specs.declared.found.Waiting.TheVariants.{Responses, Others, Neither}
+use Rattle.feeder.specs.declared.found.Waiting.TheVariants.{Responses, Others}
 
 -- the test for each type
 is_resp : (t : ℕ) → t ≡ 3 → response_by t ≡ true
@@ -40,7 +40,6 @@ in_response t h = ⊎_elim (λ a. inl (eqb-true t 3 a)) (λ a. ⊎_elim (λ b. i
 pub belongs_law : (w : Waiting) (t : ℕ) → Belongs w t → belongs_by w t ≡ true
 belongs_law Responses t h = response_in t h
 belongs_law Others t h = rw (no_response t h.0 h.1)
-belongs_law Neither t h = absurd h
 
 pub by_belongs : (w : Waiting) (t : ℕ) → belongs_by w t ≡ true → Belongs w t
 by_belongs Responses t e = in_response t e
@@ -48,7 +47,6 @@ by_belongs Others t e = (λ q. never (is_resp t q), λ q. never (response_in t (
   where
     never : response_by t ≡ true → ⊥
     never r = let z : false ≡ true = rw r at e in never_both refl z
-by_belongs Neither t e = absurd (never_both refl e)
 
 -- ---- responses pay RSP
 

@@ -10,13 +10,14 @@ use Rattle.feeder.specs.Feeding.{feeding, fed_part}
 use Rattle.feeder.specs.Rules.{RecordAt, Valid, Short, Due, RunsOn, Rule, not_valid, too_long, hands_response, hands_other, both_empty, response_broken, other_broken}
 use Rattle.feeder.specs.Asks.{lowered, lowered_step}
 use Rattle.feeder.specs.declared.found.Waiting.{Waiting}
-use Rattle.feeder.specs.declared.found.Waiting.TheVariants.{Responses, Others, Neither}
+use Rattle.feeder.specs.declared.found.Waiting.TheVariants.{Responses, Others}
 use Rattle.feeder.specs.declared.feed.Feed.{Feed}
 use Rattle.feeder.specs.declared.feed.Answer.TheVariants.{Handed}
 use Rattle.feeder.specs.declared.feed.Step.{Step}
 use Rattle.feeder.proofs.DroppedParts.{same_part}
 use Rattle.feeder.proofs.RecordCases.{record_also}
 use Rattle.feeder.proofs.RuleLaws.{follows, only}
+use Rattle.std.specs.Prelude.{Option, Some, None}
 
 -- ---- a record behind the bytes that are dropped
 
@@ -41,10 +42,10 @@ module _ (f : ℕ) (R O : List ℕ) (s : Feed) (a b : ℕ) (ha : a ≤ s.respons
   short_lowered : Short (drop a R) (drop b O)
   short_lowered = let m = length-drop a R in let n = length-drop b O in let x = h.0 in let y = h.1 in (omega arith, omega arith)
 
-  due_lowered : (w : Waiting) → Due w R O s → Due w (drop a R) (drop b O) (lowered a b s)
-  due_lowered Responses d = let m = length-drop a R in let n = length-drop b O in let x = d.0 in (omega arith, λ k. d.1 (omega arith))
-  due_lowered Others d = let m = length-drop a R in let n = length-drop b O in let x = d.0 in (omega arith, λ k. d.1 (omega arith))
-  due_lowered Neither d = let m = length-drop a R in let n = length-drop b O in let x = d.0 in let y = d.1 in (omega arith, omega arith)
+  due_lowered : (w : Option Waiting) → Due w R O s → Due w (drop a R) (drop b O) (lowered a b s)
+  due_lowered (Some Responses) d = let m = length-drop a R in let n = length-drop b O in let x = d.0 in (omega arith, λ k. d.1 (omega arith))
+  due_lowered (Some Others) d = let m = length-drop a R in let n = length-drop b O in let x = d.0 in (omega arith, λ k. d.1 (omega arith))
+  due_lowered None d = let m = length-drop a R in let n = length-drop b O in let x = d.0 in let y = d.1 in (omega arith, omega arith)
 
   runs_lowered : (n : ℕ) → RunsOn O s n → RunsOn (drop b O) (lowered a b s) n
   runs_lowered n r = let m = length-drop b O in let y = v.other in (λ k. r.0 (omega arith), λ k. r.1 (omega arith))
@@ -63,17 +64,17 @@ module _ (f : ℕ) (R O : List ℕ) (s : Feed) (a b : ℕ) (ha : a ≤ s.respons
       subst
       (λ (k : ℕ). Rule f (drop a R) (drop b O) (lowered a b s) (record { feed = record { response = k; other = s.other - b; run = n }; answer = Handed Responses }) p)
       (behind s.response a (length p) ha)
-      (hands_response valid_lowered short_lowered (due_lowered Responses d) p (record_lowered Responses R s.response a ha p d.0 r) n (runs_lowered n u))
+      (hands_response valid_lowered short_lowered (due_lowered (Some Responses) d) p (record_lowered Responses R s.response a ha p d.0 r) n (runs_lowered n u))
   rule_lowered _ _ (hands_other _ _ d p r) =
       subst
       (λ (k : ℕ). Rule f (drop a R) (drop b O) (lowered a b s) (record { feed = record { response = s.response - a; other = k; run = 0 }; answer = Handed Others }) p)
       (behind s.other b (length p) hb)
-      (hands_other valid_lowered short_lowered (due_lowered Others d) p (record_lowered Others O s.other b hb p d.0 r))
-  rule_lowered _ _ (both_empty _ _ d) = both_empty valid_lowered short_lowered (due_lowered Neither d)
+      (hands_other valid_lowered short_lowered (due_lowered (Some Others) d) p (record_lowered Others O s.other b hb p d.0 r))
+  rule_lowered _ _ (both_empty _ _ d) = both_empty valid_lowered short_lowered (due_lowered None d)
   rule_lowered _ _ (response_broken _ _ d n) =
-      response_broken valid_lowered short_lowered (due_lowered Responses d) (λ p r. n p (record_raised Responses R s.response a ha p d.0 r))
+      response_broken valid_lowered short_lowered (due_lowered (Some Responses) d) (λ p r. n p (record_raised Responses R s.response a ha p d.0 r))
   rule_lowered _ _ (other_broken _ _ d n) =
-      other_broken valid_lowered short_lowered (due_lowered Others d) (λ p r. n p (record_raised Others O s.other b hb p d.0 r))
+      other_broken valid_lowered short_lowered (due_lowered (Some Others) d) (λ p r. n p (record_raised Others O s.other b hb p d.0 r))
 
 pub dropped : (f : ℕ) (R O : List ℕ) (s : Feed) → IsBytes R → IsBytes O → Valid f R O s → Short R O → (a b : ℕ) → a ≤ s.response → b ≤ s.other
     → (lowered_step a b (feeding f R O s) ≡ feeding f (drop a R) (drop b O) (lowered a b s))

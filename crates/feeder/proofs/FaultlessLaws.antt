@@ -21,6 +21,7 @@ use Rattle.feeder.specs.declared.feed.Step.{Step}
 use Rattle.feeder.proofs.RecordCases.{record_one}
 use Rattle.feeder.proofs.RuleLaws.{follows}
 use Rattle.feeder.proofs.TurnLaws.{lengthened_none}
+use Rattle.std.specs.Prelude.{Some}
 
 -- the first of the records that are left
 record_first : (w : Waiting) (l : List ℕ) (at : ℕ) (m rest : List ℕ) → is_message m ≡ true → Belongs w (type_of m) → at < length l
@@ -66,7 +67,7 @@ rest_behind w l at p r h t =
     rw (record_one w l at p n.bytes t n.stands) n.behind
 
 -- the run after a response is at most four
-run_low : (R O : List ℕ) (s : Feed) (n : ℕ) → Due Responses R O s → RunsOn O s n → n ≤ 4
+run_low : (R O : List ℕ) (s : Feed) (n : ℕ) → Due (Some Responses) R O s → RunsOn O s n → n ≤ 4
 run_low R O s n d r =
     ⊎_elim (λ (h : s.other < length O). let a = r.0 h in let b = d.1 h in omega arith) (λ (h : length O ≤ s.other). let a = r.1 h in omega arith)
     (lt_or_le s.other (length O))

@@ -5,11 +5,12 @@ use mathlib.Core.List.{List, [], ◌∷◌, ◌++◌}
 use lib.ListN.{replicate}
 use Rattle.cause.specs.declared.Cause.TheVariants.{BrokenRecord, TooLong, InvalidState}
 use Rattle.record.specs.Number.{read_number}
-use Rattle.feeder.specs.Due.{found_at}
+use Rattle.feeder.specs.Due.{Neither, found_at}
 use Rattle.feeder.specs.Feeding.{fresh_feed, call_checks, feeding, fed_part}
-use Rattle.feeder.specs.declared.found.Waiting.TheVariants.{Responses, Others, Neither}
+use Rattle.feeder.specs.declared.found.Waiting.TheVariants.{Responses, Others}
 use Rattle.feeder.specs.declared.feed.Feed.{Feed}
 use Rattle.feeder.specs.declared.feed.Answer.TheVariants.{Handed, Empty, Refused}
+use Rattle.std.specs.Prelude.{Some}
 
 -- the records of a Resp, a Resp2 and a ReqS, and a Resp cut short
 abbrev a_resp : List ℕ
@@ -50,16 +51,16 @@ not_due : (feeding 0 a_resp cut_short fresh_feed).answer ≡ Handed Responses
 unfolding feeding call_checks found_at read_number
 not_due = refl
 
-due_broken : feeding 0 a_resp cut_short (feed_at 11 0 2) ≡ record { feed = feed_at 11 0 2; answer = Refused Others BrokenRecord 0 }
+due_broken : feeding 0 a_resp cut_short (feed_at 11 0 2) ≡ record { feed = feed_at 11 0 2; answer = Refused (Some Others) BrokenRecord 0 }
 unfolding feeding call_checks found_at read_number
 due_broken = refl
 
 -- a record in the wrong list is 17 there
-wrong_list : (feeding 0 (a_resp ++ a_req) [] (feed_at 11 0 0)).answer ≡ Refused Responses BrokenRecord 11
+wrong_list : (feeding 0 (a_resp ++ a_req) [] (feed_at 11 0 0)).answer ≡ Refused (Some Responses) BrokenRecord 11
 unfolding feeding call_checks found_at read_number
 wrong_list = refl
 
-wrong_other : (feeding 0 [] a_resp2 fresh_feed).answer ≡ Refused Others BrokenRecord 0
+wrong_other : (feeding 0 [] a_resp2 fresh_feed).answer ≡ Refused (Some Others) BrokenRecord 0
 unfolding feeding call_checks found_at read_number
 wrong_other = refl
 

@@ -15,7 +15,8 @@ use Rattle.record.specs.declared.list.First.TheVariants.{Empty, Bad, Whole}
 use Rattle.record.proofs.RecordLaws.{first_within, first_short, found}
 use Rattle.feeder.specs.Due.{belongs_by, judged, found_at}
 use Rattle.feeder.specs.declared.found.Waiting.{Waiting}
-use Rattle.feeder.specs.declared.found.Found.TheVariants.{Right, Wrong}
+use Rattle.std.specs.Prelude.{Option, Some, None}
+use Rattle.std.specs.Bool.{then_some}
 
 -- the type of a first record's message is in its first byte
 pub first_type : (l : List ℕ) (at start end : ℕ) → first_of (drop at l) ≡ Whole start end → type_of (message_of (drop at l) start end) ≡ get_or l (at + start) 0 % 16
@@ -26,15 +27,20 @@ first_type l at start end e =
     let b = get_or-drop at l (start + 0) 0 in
     ap (λ (k : ℕ). k % 16) (a ∙ b ∙ ap (λ (k : ℕ). get_or l (at + k) 0) z)
 
+chosen : (b : Bool) (n : ℕ) → then_some b n ≡ pick b (Some n) None
+chosen true n = refl
+chosen false n = refl
+
 -- what is read behind a position
 module _ (w : Waiting) (l : List ℕ) (at : ℕ) (r : First) (e : r ≡ first_of (take (length l - at) (drop at l))) where
-  pub found_empty : r ≡ Empty → Wrong ≡ found_at w l at
+  pub found_nothing : ((start end : ℕ) → r ≡ Whole start end → ⊥) → None ≡ found_at w l at
   unfolding found_at
-  found_empty q = rw (found l at r Empty e q)
-
-  pub found_bad : r ≡ Bad → Wrong ≡ found_at w l at
-  unfolding found_at
-  found_bad q = rw (found l at r Bad e q)
+  found_nothing none = by r refl
+    where
+      by : (f : First) → r ≡ f → None ≡ judged w l at (first_of (drop at l))
+      by Empty q = rw (found l at r Empty e q)
+      by Bad q = rw (found l at r Bad e q)
+      by (Whole start end) q = absurd (none start end q)
 
   module _ (h : at ≤ length l) (start end : ℕ) (q : r ≡ Whole start end) where
     pub whole_within : (at + start ≤ length l) × (at + end ≤ length l)
@@ -47,13 +53,9 @@ module _ (w : Waiting) (l : List ℕ) (at : ℕ) (r : First) (e : r ≡ first_of
       kind : belongs_by w (type_of (message_of (drop at l) start end)) ≡ b
       kind = ap (belongs_by w) (first_type l at start end (found l at r (Whole start end) e q) ∙ ap (λ (x : ℕ). x % 16) (sym ek)) ∙ sym eb
 
-      pub found_right : b ≡ true → Right (at + end) ≡ found_at w l at
+      pub found_whole : (x : Option ℕ) → x ≡ then_some b (at + end) → x ≡ found_at w l at
       unfolding found_at
-      found_right t = rw (found l at r (Whole start end) e q, kind, t)
-
-      pub found_wrong : b ≡ false → Wrong ≡ found_at w l at
-      unfolding found_at
-      found_wrong t = rw (found l at r (Whole start end) e q, kind, t)
+      found_whole x ex = ex ∙ rw (found l at r (Whole start end) e q, kind) (chosen b (at + end))
 
 -- what a record that is found says of the first record behind its position
 pub record FirstTo (w : Waiting) (l : List ℕ) (at : ℕ) (f : First) (end : ℕ) : Type 0 where
@@ -63,21 +65,21 @@ pub record FirstTo (w : Waiting) (l : List ℕ) (at : ℕ) (f : First) (end : �
   pub belongs : belongs_by w (type_of (message_of (drop at l) start stop)) ≡ true
   pub ends : at + stop ≡ end
 
-judged_to : (w : Waiting) (l : List ℕ) (at : ℕ) (f : First) (end : ℕ) → judged w l at f ≡ Right end → FirstTo w l at f end
+judged_to : (w : Waiting) (l : List ℕ) (at : ℕ) (f : First) (end : ℕ) → judged w l at f ≡ Some end → FirstTo w l at f end
 judged_to w l at Empty end e = let z : ◌≡◌ {A = ℕ} 0 1 = cc in absurd (omega arith)
 judged_to w l at Bad end e = let z : ◌≡◌ {A = ℕ} 0 1 = cc in absurd (omega arith)
 judged_to w l at (Whole start stop) end e = by (belongs_by w (type_of (message_of (drop at l) start stop))) refl e
   where
-    by : (b : Bool) → belongs_by w (type_of (message_of (drop at l) start stop)) ≡ b → pick b (Right (at + stop)) Wrong ≡ Right end → FirstTo w l at (Whole start stop) end
+    by : (b : Bool) → belongs_by w (type_of (message_of (drop at l) start stop)) ≡ b → pick b (Some (at + stop)) None ≡ Some end → FirstTo w l at (Whole start stop) end
     by true k p = let ends : at + stop ≡ end = cc in record { start = start; stop = stop; whole = refl; belongs = k; ends = ends }
     by false k p = let z : ◌≡◌ {A = ℕ} 0 1 = cc in absurd (omega arith)
 
-pub found_to : (w : Waiting) (l : List ℕ) (at end : ℕ) → found_at w l at ≡ Right end → FirstTo w l at (first_of (drop at l)) end
+pub found_to : (w : Waiting) (l : List ℕ) (at end : ℕ) → found_at w l at ≡ Some end → FirstTo w l at (first_of (drop at l)) end
 unfolding found_at
 found_to w l at end e = judged_to w l at (first_of (drop at l)) end e
 
 -- a record that is found ends behind its position, within the list, and has at most 121 bytes
-pub found_within : (w : Waiting) (l : List ℕ) (at : ℕ) → at ≤ length l → (end : ℕ) → found_at w l at ≡ Right end → (at < end) × (end ≤ length l) × (end ≤ at + 121)
+pub found_within : (w : Waiting) (l : List ℕ) (at : ℕ) → at ≤ length l → (end : ℕ) → found_at w l at ≡ Some end → (at < end) × (end ≤ length l) × (end ≤ at + 121)
 found_within w l at h end e =
     let j = found_to w l at end e in
     let b = first_within (drop at l) j.start j.stop j.whole in

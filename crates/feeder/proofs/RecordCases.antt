@@ -16,10 +16,9 @@ use Rattle.record.proofs.RecordLaws.{Splits, first_splits, first_written}
 use Rattle.feeder.specs.Due.{belongs_by, found_at}
 use Rattle.feeder.specs.Rules.{RecordAt}
 use Rattle.feeder.specs.declared.found.Waiting.{Waiting}
-use Rattle.feeder.specs.declared.found.Found.{Found}
-use Rattle.feeder.specs.declared.found.Found.TheVariants.{Right, Wrong}
 use Rattle.feeder.proofs.BelongLaws.{belongs_law, by_belongs}
 use Rattle.feeder.proofs.FoundLaws.{found_to}
+use Rattle.std.specs.Prelude.{Some, None, Option}
 
 -- a record and what is behind it
 pub record_front : {w : Waiting} {l : List ℕ} {at : ℕ} {p : List ℕ} → RecordAt w l at p → drop at l ≡ p ++ drop (at + length p) l
@@ -63,7 +62,7 @@ pub record FoundTo (w : Waiting) (l : List ℕ) (at end : ℕ) : Type 0 where
   pub after : at + length (part at (end - at) l) ≡ end
   pub stands : RecordAt w l at (part at (end - at) l)
 
-pub found_record : (w : Waiting) (l : List ℕ) (at : ℕ) → IsBytes l → at ≤ length l → (end : ℕ) → found_at w l at ≡ Right end → FoundTo w l at end
+pub found_record : (w : Waiting) (l : List ℕ) (at : ℕ) → IsBytes l → at ≤ length l → (end : ℕ) → found_at w l at ≡ Some end → FoundTo w l at end
 found_record w l at b h end e =
     let j = found_to w l at end e in
     let s = first_splits (drop at l) (bytes_drop l at b) j.start j.stop j.whole in
@@ -100,28 +99,28 @@ module _ (w : Waiting) (l : List ℕ) (at : ℕ) (p : List ℕ) (r : RecordAt w 
   unfolding u
   size_is = sym (ap length r.written ∙ length-append (number (length r.message)) r.message)
 
-  pub record_found : found_at w l at ≡ Right (at + length p)
+  pub record_found : found_at w l at ≡ Some (at + length p)
   unfolding found_at
   record_found = rw (first_is, message_is, belongs_law w (type_of r.message) r.belongs, size_is)
 
 -- ---- where no record is found none stands, and the other way round
 
-pub none_stands : (w : Waiting) (l : List ℕ) (at : ℕ) → found_at w l at ≡ Wrong → (p : List ℕ) → RecordAt w l at p → ⊥
+pub none_stands : (w : Waiting) (l : List ℕ) (at : ℕ) → found_at w l at ≡ None → (p : List ℕ) → RecordAt w l at p → ⊥
 none_stands w l at q p r =
-    let e : Wrong ≡ Right (at + length p) = sym q ∙ record_found w l at p r in let z : ◌≡◌ {A = ℕ} 0 1 = cc in omega arith
+    let e : None ≡ Some (at + length p) = sym q ∙ record_found w l at p r in let z : ◌≡◌ {A = ℕ} 0 1 = cc in omega arith
 
-pub none_found : (w : Waiting) (l : List ℕ) (at : ℕ) → IsBytes l → at ≤ length l → ((p : List ℕ) → RecordAt w l at p → ⊥) → found_at w l at ≡ Wrong
+pub none_found : (w : Waiting) (l : List ℕ) (at : ℕ) → IsBytes l → at ≤ length l → ((p : List ℕ) → RecordAt w l at p → ⊥) → found_at w l at ≡ None
 none_found w l at b h n = by (found_at w l at) refl
   where
-    by : (x : Found) → found_at w l at ≡ x → found_at w l at ≡ Wrong
-    by Wrong q = q
-    by (Right end) q = absurd (n (part at (end - at) l) (found_record w l at b h end q).stands)
+    by : (x : Option ℕ) → found_at w l at ≡ x → found_at w l at ≡ None
+    by None q = q
+    by (Some end) q = absurd (n (part at (end - at) l) (found_record w l at b h end q).stands)
 
 -- ---- one record at one position, also in a list that was lengthened
 
 pub record_one : (w : Waiting) (l : List ℕ) (at : ℕ) (p q : List ℕ) → RecordAt w l at p → RecordAt w l at q → p ≡ q
 record_one w l at p q r t =
-    let e : Right (at + length p) ≡ Right (at + length q) = sym (record_found w l at p r) ∙ record_found w l at q t in
+    let e : Some (at + length p) ≡ Some (at + length q) = sym (record_found w l at p r) ∙ record_found w l at q t in
     let k : at + length p ≡ at + length q = cc in
     let n : length p ≡ length q = omega arith in
     sym r.stands ∙ ap (λ (x : ℕ). part at x l) n ∙ t.stands

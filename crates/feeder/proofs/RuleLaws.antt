@@ -10,52 +10,49 @@ use borrow.Author.Tests.{lt-ltb, le-ltb, le-leb, lt-leb}
 use Rattle.lists.specs.Parts.{part, IsBytes}
 use Rattle.lists.proofs.Order.{lt_or_le}
 use Rattle.lists.proofs.Tests.{not_true_false, or_true}
-use Rattle.cause.specs.Checks.{first_fault}
+use Rattle.cause.specs.Checks.{first_fault, Verdict, Accepted, Refused}
 use Rattle.cause.specs.declared.Cause.TheVariants.{BrokenRecord, TooLong, InvalidState}
-use Rattle.cause.specs.declared.Verdict.{Verdict}
-use Rattle.cause.specs.declared.Verdict.TheVariants.{Accepted, Refused}
-use Rattle.feeder.specs.Due.{due_of, found_at}
+use Rattle.feeder.specs.Due.{Neither, due_of, found_at}
 use Rattle.feeder.specs.Feeding.{feed_ok, call_checks, refusing, run_after, response_step, other_step, empty_step, step_of, step_by, list_served, passed, feeding, fed_part}
 use Rattle.feeder.specs.Rules.{Valid, Short, Due, RunsOn, Rule, not_valid, too_long, hands_response, hands_other, both_empty, response_broken, other_broken}
 use Rattle.feeder.specs.declared.found.Waiting.{Waiting}
-use Rattle.feeder.specs.declared.found.Waiting.TheVariants.{Responses, Others, Neither}
-use Rattle.feeder.specs.declared.found.Found.{Found}
-use Rattle.feeder.specs.declared.found.Found.TheVariants.{Right, Wrong}
+use Rattle.feeder.specs.declared.found.Waiting.TheVariants.{Responses, Others}
 use Rattle.feeder.specs.declared.feed.Feed.{Feed}
 use Rattle.feeder.specs.declared.feed.Answer.TheVariants.{Handed}
 use Rattle.feeder.specs.declared.feed.Step.{Step}
 use Rattle.feeder.proofs.StepCases.{call_invalid, call_responses, call_others, call_accepted, feed_valid, valid_feed, by_outcome}
 use Rattle.feeder.proofs.RecordCases.{found_record, record_found, none_stands, none_found}
+use Rattle.std.specs.Prelude.{Some, None, Option}
 
 -- ---- the list due
 
 module _ (R O : List ℕ) (s : Feed) where
-  pub due_is : (w : Waiting) → Due w R O s → due_of (length R) (length O) s ≡ w
-  due_is Responses d =
+  pub due_is : (w : Option Waiting) → Due w R O s → due_of (length R) (length O) s ≡ w
+  due_is (Some Responses) d =
       ⊎_elim (λ (h : s.other < length O). rw (lt-ltb s.other (length O) h, lt-leb 4 s.run (d.1 h), lt-ltb s.response (length R) d.0))
       (λ (h : length O ≤ s.other). rw (le-ltb s.other (length O) h, lt-ltb s.response (length R) d.0)) (lt_or_le s.other (length O))
-  due_is Others d =
+  due_is (Some Others) d =
       ⊎_elim (λ (h : s.response < length R). let e = d.1 h in rw (lt-ltb s.other (length O) d.0, le-leb 4 s.run (omega arith)))
       (λ (h : length R ≤ s.response). rw (lt-ltb s.other (length O) d.0, le-ltb s.response (length R) h, or_true (leb 4 s.run))) (lt_or_le s.response (length R))
-  due_is Neither d = rw (le-ltb s.other (length O) d.1, le-ltb s.response (length R) d.0)
+  due_is None d = rw (le-ltb s.other (length O) d.1, le-ltb s.response (length R) d.0)
 
   pub due_known : s.run ≤ 4 → Due (due_of (length R) (length O) s) R O s
   due_known h =
       ⊎_elim (λ (b : s.other < length O). other_waits b) (λ (b : length O ≤ s.other). other_empty b) (lt_or_le s.other (length O))
     where
-      known : (w : Waiting) → Due w R O s → Due (due_of (length R) (length O) s) R O s
-      known w d = subst (λ (v : Waiting). Due v R O s) (sym (due_is w d)) d
+      known : (w : Option Waiting) → Due w R O s → Due (due_of (length R) (length O) s) R O s
+      known w d = subst (λ (v : Option Waiting). Due v R O s) (sym (due_is w d)) d
 
       other_waits : s.other < length O → Due (due_of (length R) (length O) s) R O s
       other_waits b =
           ⊎_elim
           (λ (a : s.response < length R).
-          ⊎_elim (λ (r : s.run < 4). known Responses (a, λ x. r)) (λ (r : 4 ≤ s.run). known Others (b, λ x. omega arith)) (lt_or_le s.run 4))
-          (λ (a : length R ≤ s.response). known Others (b, λ x. absurd (omega arith))) (lt_or_le s.response (length R))
+          ⊎_elim (λ (r : s.run < 4). known (Some Responses) (a, λ x. r)) (λ (r : 4 ≤ s.run). known (Some Others) (b, λ x. omega arith)) (lt_or_le s.run 4))
+          (λ (a : length R ≤ s.response). known (Some Others) (b, λ x. absurd (omega arith))) (lt_or_le s.response (length R))
 
       other_empty : length O ≤ s.other → Due (due_of (length R) (length O) s) R O s
       other_empty b =
-          ⊎_elim (λ (a : s.response < length R). known Responses (a, λ x. absurd (omega arith))) (λ (a : length R ≤ s.response). known Neither (a, b))
+          ⊎_elim (λ (a : s.response < length R). known (Some Responses) (a, λ x. absurd (omega arith))) (λ (a : length R ≤ s.response). known Neither (a, b))
           (lt_or_le s.response (length R))
 
 -- ---- the run
@@ -92,8 +89,8 @@ module _ (f : ℕ) (R O : List ℕ) (s : Feed) where
   unfolding feeding
   step_by_verdict v e = rw e
 
-  step_by_list : Valid f R O s → Short R O → (w : Waiting) → Due w R O s → step_of w R O s ≡ feeding f R O s
-  step_by_list v h w d = ap (λ (x : Waiting). step_of x R O s) (sym (due_is R O s w d)) ∙ step_by_verdict Accepted (sound v h)
+  step_by_list : Valid f R O s → Short R O → (w : Option Waiting) → Due w R O s → step_of w R O s ≡ feeding f R O s
+  step_by_list v h w d = ap (λ (x : Option Waiting). step_of x R O s) (sym (due_is R O s w d)) ∙ step_by_verdict Accepted (sound v h)
 
   -- a step and the part that it hands out
   part_by : (t : Step) → t ≡ feeding f R O s → passed R O s t (list_served t.answer) ≡ fed_part f R O s
@@ -103,28 +100,28 @@ module _ (f : ℕ) (R O : List ℕ) (s : Feed) where
   -- ---- the answer follows the rules
 
   module _ (v : Valid f R O s) (h : Short R O) where
-    follows_response : IsBytes R → Due Responses R O s → (x : Found) → found_at Responses R s.response ≡ x
+    follows_response : IsBytes R → Due (Some Responses) R O s → (x : Option ℕ) → found_at Responses R s.response ≡ x
         → Rule f R O s (response_step (length O) s x) (passed R O s (response_step (length O) s x) (list_served (response_step (length O) s x).answer))
-    follows_response b d Wrong q = response_broken v h d (none_stands Responses R s.response q)
-    follows_response b d (Right end) q =
+    follows_response b d None q = response_broken v h d (none_stands Responses R s.response q)
+    follows_response b d (Some end) q =
         let r = found_record Responses R s.response b v.response end q in
         subst
         (λ (k : ℕ). Rule f R O s (record { feed = record { response = k; other = s.other; run = run_after (length O) s }; answer = Handed Responses }) (part s.response (end - s.response) R))
         r.after (hands_response v h d (part s.response (end - s.response) R) r.stands (run_after (length O) s) (runs_on O s))
 
-    follows_other : IsBytes O → Due Others R O s → (x : Found) → found_at Others O s.other ≡ x
+    follows_other : IsBytes O → Due (Some Others) R O s → (x : Option ℕ) → found_at Others O s.other ≡ x
         → Rule f R O s (other_step s x) (passed R O s (other_step s x) (list_served (other_step s x).answer))
-    follows_other b d Wrong q = other_broken v h d (none_stands Others O s.other q)
-    follows_other b d (Right end) q =
+    follows_other b d None q = other_broken v h d (none_stands Others O s.other q)
+    follows_other b d (Some end) q =
         let r = found_record Others O s.other b v.other end q in
         subst
         (λ (k : ℕ). Rule f R O s (record { feed = record { response = s.response; other = k; run = 0 }; answer = Handed Others }) (part s.other (end - s.other) O))
         r.after (hands_other v h d (part s.other (end - s.other) O) r.stands)
 
-    follows_due : IsBytes R → IsBytes O → (w : Waiting) → Due w R O s → Rule f R O s (step_of w R O s) (passed R O s (step_of w R O s) (list_served (step_of w R O s).answer))
-    follows_due b c Responses d = follows_response b d (found_at Responses R s.response) refl
-    follows_due b c Others d = follows_other c d (found_at Others O s.other) refl
-    follows_due b c Neither d = both_empty v h d
+    follows_due : IsBytes R → IsBytes O → (w : Option Waiting) → Due w R O s → Rule f R O s (step_of w R O s) (passed R O s (step_of w R O s) (list_served (step_of w R O s).answer))
+    follows_due b c (Some Responses) d = follows_response b d (found_at Responses R s.response) refl
+    follows_due b c (Some Others) d = follows_other c d (found_at Others O s.other) refl
+    follows_due b c None d = both_empty v h d
 
   pub follows : IsBytes R → IsBytes O → Rule f R O s (feeding f R O s) (fed_part f R O s)
   unfolding fed_part
@@ -148,16 +145,16 @@ module _ (f : ℕ) (R O : List ℕ) (s : Feed) where
   only b c _ _ (too_long v n) = same (refusing s Neither TooLong 0) [] (step_by_verdict (Refused TooLong 0) (long v n)) refl
   only b c _ _ (hands_response v h d p r n k) =
       same (record { feed = record { response = s.response + length p; other = s.other; run = n }; answer = Handed Responses }) p
-      (rw (run_is O s n k) (ap (response_step (length O) s) (sym (record_found Responses R s.response p r)) ∙ step_by_list v h Responses d))
+      (rw (run_is O s n k) (ap (response_step (length O) s) (sym (record_found Responses R s.response p r)) ∙ step_by_list v h (Some Responses) d))
       (rw (size_behind s.response (length p)) (sym r.stands))
   only b c _ _ (hands_other v h d p r) =
       same (record { feed = record { response = s.response; other = s.other + length p; run = 0 }; answer = Handed Others }) p
-      (ap (other_step s) (sym (record_found Others O s.other p r)) ∙ step_by_list v h Others d)
+      (ap (other_step s) (sym (record_found Others O s.other p r)) ∙ step_by_list v h (Some Others) d)
       (rw (size_behind s.other (length p)) (sym r.stands))
-  only b c _ _ (both_empty v h d) = same (empty_step s) [] (step_by_list v h Neither d) refl
+  only b c _ _ (both_empty v h d) = same (empty_step s) [] (step_by_list v h None d) refl
   only b c _ _ (response_broken v h d n) =
-      same (refusing s Responses BrokenRecord s.response) []
-      (ap (response_step (length O) s) (sym (none_found Responses R s.response b v.response n)) ∙ step_by_list v h Responses d) refl
+      same (refusing s (Some Responses) BrokenRecord s.response) []
+      (ap (response_step (length O) s) (sym (none_found Responses R s.response b v.response n)) ∙ step_by_list v h (Some Responses) d) refl
   only b c _ _ (other_broken v h d n) =
-      same (refusing s Others BrokenRecord s.other) []
-      (ap (other_step s) (sym (none_found Others O s.other c v.other n)) ∙ step_by_list v h Others d) refl
+      same (refusing s (Some Others) BrokenRecord s.other) []
+      (ap (other_step s) (sym (none_found Others O s.other c v.other n)) ∙ step_by_list v h (Some Others) d) refl

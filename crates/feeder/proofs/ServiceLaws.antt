@@ -13,7 +13,7 @@ use Rattle.feeder.specs.Feeding.{fresh_feed}
 use Rattle.feeder.specs.Rules.{RecordAt}
 use Rattle.feeder.specs.Asks.{Lists, bytes_of, Turn, Lengthened, Asking, none, then, Within, at_once, later, Served, Parts, no_part, one_part, passed_by, HandedOut, joined}
 use Rattle.feeder.specs.declared.found.Waiting.{Waiting}
-use Rattle.feeder.specs.declared.found.Waiting.TheVariants.{Responses, Others, Neither}
+use Rattle.feeder.specs.declared.found.Waiting.TheVariants.{Responses, Others}
 use Rattle.feeder.specs.declared.feed.Feed.{Feed}
 use Rattle.feeder.specs.declared.feed.Answer.TheVariants.{Handed}
 use Rattle.feeder.proofs.RecordCases.{record_front, record_one}
@@ -144,7 +144,6 @@ joined_records (m ∷ ms) = ap (λ (x : List ℕ). record_of m ++ x) (joined_rec
 fresh_position : (w : Waiting) → position_of w fresh_feed ≡ 0
 fresh_position Responses = refl
 fresh_position Others = refl
-fresh_position Neither = refl
 
 pub beginning : (f : ℕ) (a z : Lists) (e : Feed) (ts : List Turn) → Asking f a fresh_feed ts z e → (w : Waiting) (parts : List (List ℕ))
     → Parts w ts parts → joined parts ≡ take (position_of w e) (bytes_of w z)

@@ -10,21 +10,18 @@ use lib.Dec.{ltb, leb}
 use borrow.Author.Tests.{lt-ltb, le-leb, lt-leb, leb-true, ltb-true}
 use Rattle.lists.proofs.Order.{lt_or_le}
 use Rattle.lists.proofs.Tests.{cases, never_both, and_left, and_right}
-use Rattle.cause.specs.Checks.{first_fault}
+use Rattle.cause.specs.Checks.{first_fault, Verdict, Accepted, Refused}
 use Rattle.cause.specs.declared.Cause.{Cause}
 use Rattle.cause.specs.declared.Cause.TheVariants.{BrokenRecord, TooLong, InvalidState}
-use Rattle.cause.specs.declared.Verdict.{Verdict}
-use Rattle.cause.specs.declared.Verdict.TheVariants.{Accepted, Refused}
 use Rattle.cause.proofs.CheckLaws.{accepted_pass}
-use Rattle.feeder.specs.Due.{due_of, found_at}
-use Rattle.feeder.specs.Feeding.{feed_ok, call_checks, refusing, response_step, other_step, empty_step, step_of, step_by, feeding}
+use Rattle.feeder.specs.Due.{Neither, list_of, position_of, due_of, found_at}
+use Rattle.feeder.specs.Feeding.{feed_ok, call_checks, refusing, response_step, other_step, due_step, empty_step, step_of, step_by, feeding}
 use Rattle.feeder.specs.Rules.{Valid, Short}
 use Rattle.feeder.specs.declared.found.Waiting.{Waiting}
-use Rattle.feeder.specs.declared.found.Waiting.TheVariants.{Responses, Others, Neither}
-use Rattle.feeder.specs.declared.found.Found.{Found}
-use Rattle.feeder.specs.declared.found.Found.TheVariants.{Right, Wrong}
+use Rattle.feeder.specs.declared.found.Waiting.TheVariants.{Responses, Others}
 use Rattle.feeder.specs.declared.feed.Feed.{Feed}
 use Rattle.feeder.specs.declared.feed.Step.{Step}
+use Rattle.std.specs.Prelude.{Some, None, Option}
 
 -- ---- the checks of an ask
 
@@ -79,16 +76,14 @@ module _ (f : ℕ) (R O : List ℕ) (s : Feed) (v : Verdict) (ev : v ≡ first_f
     pub valid : Valid f R O s
     valid = checks_accepted_valid f R O s (sym ev ∙ e)
 
-    module _ (d : Waiting) (ed : d ≡ due_of (length R) (length O) s) where
-      pub step_due : (w : Waiting) → d ≡ w → (t : Step) → t ≡ step_of w R O s → t ≡ feeding f R O s
+    module _ (d : Option Waiting) (ed : d ≡ due_of (length R) (length O) s) where
+      pub step_due : (w : Option Waiting) → d ≡ w → (t : Step) → t ≡ step_of w R O s → t ≡ feeding f R O s
       unfolding feeding
       step_due w q t et = et ∙ rw (← ev, e, ← ed, q)
 
-      pub step_response : d ≡ Responses → (x : Found) → x ≡ found_at d R s.response → (t : Step) → t ≡ response_step (length O) s x → t ≡ feeding f R O s
-      step_response q x ex t et = step_due Responses q t (et ∙ ap (response_step (length O) s) (ex ∙ ap (λ (w : Waiting). found_at w R s.response) q))
-
-      pub step_other : d ≡ Others → (x : Found) → x ≡ found_at d O s.other → (t : Step) → t ≡ other_step s x → t ≡ feeding f R O s
-      step_other q x ex t et = step_due Others q t (et ∙ ap (other_step s) (ex ∙ ap (λ (w : Waiting). found_at w O s.other) q))
+      pub step_list : (w : Waiting) → d ≡ Some w → (x : Option ℕ) → x ≡ found_at w (list_of w R O) (position_of w s) → (t : Step) → t ≡ due_step w (length O) s x → t ≡ feeding f R O s
+      step_list Responses q x ex t et = step_due (Some Responses) q t (et ∙ ap (response_step (length O) s) ex)
+      step_list Others q x ex t et = step_due (Some Others) q t (et ∙ ap (other_step s) ex)
 
 -- ---- the outcomes of an ask
 
@@ -96,31 +91,31 @@ module _ (f : ℕ) (R O : List ℕ) (s : Feed) where
   abbrev verdict : Verdict
   verdict = first_fault (call_checks f (length R) (length O) s)
 
-  abbrev due_step : Step
-  due_step = step_of (due_of (length R) (length O) s) R O s
+  abbrev given_step : Step
+  given_step = step_of (due_of (length R) (length O) s) R O s
 
   -- what holds of a refusal by 19, of one by 18 and of what the list due gives holds of the answer
   pub by_outcome : (P : Step → Type 0) → ((Valid f R O s → ⊥) → P (refusing s Neither InvalidState 0))
-      → (Valid f R O s → (Short R O → ⊥) → P (refusing s Neither TooLong 0)) → (Valid f R O s → Short R O → P due_step) → P (feeding f R O s)
+      → (Valid f R O s → (Short R O → ⊥) → P (refusing s Neither TooLong 0)) → (Valid f R O s → Short R O → P given_step) → P (feeding f R O s)
   unfolding feeding
   by_outcome P invalid long due = ⊎_elim good bad (cases (feed_ok f (length R) (length O) s))
     where
-      known : (v : Verdict) → v ≡ verdict → P (step_by v s due_step) → P (step_by verdict s due_step)
-      known v e x = subst (λ (k : Verdict). P (step_by k s due_step)) e x
+      known : (v : Verdict) → v ≡ verdict → P (step_by v s given_step) → P (step_by verdict s given_step)
+      known v e x = subst (λ (k : Verdict). P (step_by k s given_step)) e x
 
-      bad : feed_ok f (length R) (length O) s ≡ false → P (step_by verdict s due_step)
+      bad : feed_ok f (length R) (length O) s ≡ false → P (step_by verdict s given_step)
       bad e = known (Refused InvalidState 0) (call_invalid f (length R) (length O) s e) (invalid (λ v. never_both e (valid_feed f R O s v)))
 
-      good : feed_ok f (length R) (length O) s ≡ true → P (step_by verdict s due_step)
+      good : feed_ok f (length R) (length O) s ≡ true → P (step_by verdict s given_step)
       good e = ⊎_elim responses_short responses_long (lt_or_le (length R) 4097)
         where
           v : Valid f R O s
           v = feed_valid f R O s e
 
-          responses_long : 4097 ≤ length R → P (step_by verdict s due_step)
+          responses_long : 4097 ≤ length R → P (step_by verdict s given_step)
           responses_long a = known (Refused TooLong 0) (call_responses f (length R) (length O) s e (omega arith)) (long v (λ h. let k = h.0 in omega arith))
 
-          responses_short : length R < 4097 → P (step_by verdict s due_step)
+          responses_short : length R < 4097 → P (step_by verdict s given_step)
           responses_short a =
               ⊎_elim (λ (b : length O < 4097). known Accepted (call_accepted f (length R) (length O) s e (omega arith) (omega arith)) (due v (omega arith, omega arith)))
               (λ (b : 4097 ≤ length O).
@@ -128,17 +123,17 @@ module _ (f : ℕ) (R O : List ℕ) (s : Feed) where
               (lt_or_le (length O) 4097)
 
   -- what holds of a broken record, of one handed out of each list and of none holds of what the list due gives
-  pub by_found : (P : Step → Type 0) → P (refusing s Responses BrokenRecord s.response) → P (refusing s Others BrokenRecord s.other)
-      → ((end : ℕ) → found_at Responses R s.response ≡ Right end → P (response_step (length O) s (Right end)))
-      → ((end : ℕ) → found_at Others O s.other ≡ Right end → P (other_step s (Right end))) → P (empty_step s) → (w : Waiting) → P (step_of w R O s)
-  by_found P broken-response broken-other response other empty Responses = by (found_at Responses R s.response) refl
+  pub by_found : (P : Step → Type 0) → P (refusing s (Some Responses) BrokenRecord s.response) → P (refusing s (Some Others) BrokenRecord s.other)
+      → ((end : ℕ) → found_at Responses R s.response ≡ Some end → P (response_step (length O) s (Some end)))
+      → ((end : ℕ) → found_at Others O s.other ≡ Some end → P (other_step s (Some end))) → P (empty_step s) → (w : Option Waiting) → P (step_of w R O s)
+  by_found P broken-response broken-other response other empty (Some Responses) = by (found_at Responses R s.response) refl
     where
-      by : (x : Found) → found_at Responses R s.response ≡ x → P (response_step (length O) s x)
-      by Wrong e = broken-response
-      by (Right end) e = response end e
-  by_found P broken-response broken-other response other empty Others = by (found_at Others O s.other) refl
+      by : (x : Option ℕ) → found_at Responses R s.response ≡ x → P (response_step (length O) s x)
+      by None e = broken-response
+      by (Some end) e = response end e
+  by_found P broken-response broken-other response other empty (Some Others) = by (found_at Others O s.other) refl
     where
-      by : (x : Found) → found_at Others O s.other ≡ x → P (other_step s x)
-      by Wrong e = broken-other
-      by (Right end) e = other end e
-  by_found P broken-response broken-other response other empty Neither = empty
+      by : (x : Option ℕ) → found_at Others O s.other ≡ x → P (other_step s x)
+      by None e = broken-other
+      by (Some end) e = other end e
+  by_found P broken-response broken-other response other empty None = empty

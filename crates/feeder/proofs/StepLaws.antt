@@ -1,7 +1,7 @@
 -- What every ask keeps: what is handed out is what its list moves over, a refusal changes nothing, and the numbers are small. Assumes
 -- nothing.
 use Prim.Native.Nat.{ℕ, ◌+◌, ◌-◌, ◌≤◌, ◌<◌}
-use mathlib.Core.Path.{◌≡◌, refl, sym, ap, ◌∙◌}
+use mathlib.Core.Path.{◌≡◌, refl, sym}
 use mathlib.Core.List.{List, [], append-nil}
 use mathlib.Core.Logic.{inl, inr}
 use native.Mathlib.Omega.{arith}
@@ -14,13 +14,13 @@ use Rattle.feeder.specs.Feeding.{response_step, other_step, empty_step, list_ser
 use Rattle.feeder.specs.Rules.{Valid, Between, Moves, moved_over}
 use Rattle.feeder.specs.declared.found.Waiting.{Waiting}
 use Rattle.feeder.specs.declared.found.Waiting.TheVariants.{Responses, Others}
-use Rattle.feeder.specs.declared.found.Found.TheVariants.{Right}
 use Rattle.feeder.specs.declared.feed.Feed.{Feed}
 use Rattle.feeder.specs.declared.feed.Answer.{Answer}
 use Rattle.feeder.specs.declared.feed.Answer.TheVariants.{Handed, Empty, Refused}
 use Rattle.feeder.specs.declared.feed.Step.{Step}
 use Rattle.feeder.proofs.FoundLaws.{found_within}
 use Rattle.feeder.proofs.StepCases.{by_outcome, by_found}
+use Rattle.std.specs.Prelude.{Option, Some}
 
 -- ---- what is handed out lies within its list
 
@@ -41,34 +41,34 @@ module _ (f : ℕ) (R O : List ℕ) (s : Feed) where
       by_found f R O s StepAdvances tt tt (found_within Responses R s.response v.response) (found_within Others O s.other v.other) tt
       (due_of (length R) (length O) s))
 
-  -- of the list served, which may be neither
-  served_within : (a : Answer) (e : Feed) → Advances a e → (position_of (list_served a) s ≤ position_of (list_served a) e) × (position_of (list_served a) e ≤ length (list_of (list_served a) R O))
-  served_within (Handed w) e h = (omega arith, h.1)
-  served_within Empty e h = (omega arith, omega arith)
-  served_within (Refused w c p) e h = (omega arith, omega arith)
+  -- of the list served
+  served_within : (a : Answer) (e : Feed) (v : Waiting) → list_served a ≡ Some v → Advances a e → (position_of v s ≤ position_of v e) × (position_of v e ≤ length (list_of v R O))
+  served_within (Handed w) e v q h =
+      let same : w ≡ v = cc in
+      let to : Advances (Handed v) e = rw same at h in
+      (omega arith, to.1)
+  served_within Empty e v q h = let z : ◌≡◌ {A = ℕ} 0 1 = cc in absurd (omega arith)
+  served_within (Refused w c p) e v q h = let z : ◌≡◌ {A = ℕ} 0 1 = cc in absurd (omega arith)
 
 -- ---- the part, by the list that is served
 
-module _ (f : ℕ) (R O : List ℕ) (s : Feed) (t : Step) (et : t ≡ feeding f R O s) (w : Waiting) (ew : w ≡ list_served t.answer) where
-  served : (v : Waiting) → w ≡ v → list_served (feeding f R O s).answer ≡ v
-  served v e = ap (λ (x : Step). list_served x.answer) (sym et) ∙ sym ew ∙ e
+module _ (f : ℕ) (R O : List ℕ) (s : Feed) (t : Step) (et : t ≡ feeding f R O s) where
+  pub bounds : (w : Waiting) → list_served t.answer ≡ Some w → (position_of w s ≤ position_of w t.feed) × (position_of w t.feed ≤ length (list_of w R O))
+  bounds w e = rw et (served_within f R O s (feeding f R O s).answer (feeding f R O s).feed w (rw et at e) (step_advances f R O s))
 
-  pub bounds : (v : Waiting) → w ≡ v → (position_of v s ≤ position_of v t.feed) × (position_of v t.feed ≤ length (list_of v R O))
-  bounds v e = rw et (rw (served v e) at (served_within f R O s (feeding f R O s).answer (feeding f R O s).feed (step_advances f R O s)))
-
-  pub part_is : (v : Waiting) → w ≡ v → passed R O s t v ≡ fed_part f R O s
+  pub part_is : (w : Option Waiting) → list_served t.answer ≡ w → passed R O s t w ≡ fed_part f R O s
   unfolding fed_part
-  part_is v e = rw (served v e, et)
+  part_is w e = rw (← e, et)
 
 -- ---- the part and the numbers, by the answer
 
-handed_refused : {v w : Waiting} {k : Cause} {p : ℕ} → Handed v ≡ Refused w k p → ⊥
+handed_refused : {v : Waiting} {w : Option Waiting} {k : Cause} {p : ℕ} → Handed v ≡ Refused w k p → ⊥
 handed_refused e = let z : ◌≡◌ {A = ℕ} 0 1 = cc in omega arith
 
-empty_refused : {w : Waiting} {k : Cause} {p : ℕ} → Empty ≡ Refused w k p → ⊥
+empty_refused : {w : Option Waiting} {k : Cause} {p : ℕ} → Empty ≡ Refused w k p → ⊥
 empty_refused e = let z : ◌≡◌ {A = ℕ} 0 1 = cc in omega arith
 
-place_is : {v w : Waiting} {c k : Cause} {q p : ℕ} → Refused v c q ≡ Refused w k p → q ≡ p
+place_is : {v w : Option Waiting} {c k : Cause} {q p : ℕ} → Refused v c q ≡ Refused w k p → q ≡ p
 place_is e = cc
 
 module _ (f : ℕ) (R O : List ℕ) (s : Feed) where
@@ -83,7 +83,7 @@ module _ (f : ℕ) (R O : List ℕ) (s : Feed) where
   pub part_between : (w : Waiting) → step.answer ≡ Handed w → Between (list_of w R O) (position_of w s) (position_of w step.feed) (fed_part f R O s)
   part_between w e =
       let h : Advances f R O s (Handed w) step.feed = rw e at (step_advances f R O s) in
-      let n : length (passed R O s step w) ≡ position_of w step.feed - position_of w s =
+      let n : length (passed R O s step (Some w)) ≡ position_of w step.feed - position_of w s =
       length_part (position_of w s) (position_of w step.feed - position_of w s) (list_of w R O) (omega arith) in
       rw (part_by (Handed w) e) (record { forward = h.0; within = h.1; long = omega arith; stands = rw n })
 
@@ -108,24 +108,24 @@ module _ (f : ℕ) (R O : List ℕ) (s : Feed) where
       by (Refused w c p) e = rw (part_by (Refused w c p) e) (omega arith)
 
   -- a refusal moves neither list, keeps the run and hands out nothing
-  abbrev Kept : Waiting → Cause → ℕ → Step → Type 0
+  abbrev Kept : Option Waiting → Cause → ℕ → Step → Type 0
   Kept w k p t = t.answer ≡ Refused w k p → t.feed ≡ s
 
-  pub refused_state : (w : Waiting) (k : Cause) (p : ℕ) → step.answer ≡ Refused w k p → step.feed ≡ s
+  pub refused_state : (w : Option Waiting) (k : Cause) (p : ℕ) → step.answer ≡ Refused w k p → step.feed ≡ s
   refused_state w k p =
       by_outcome f R O s (Kept w k p) (λ _ _. refl) (λ _ _ _. refl)
       (λ v h.
       by_found f R O s (Kept w k p) (λ _. refl) (λ _. refl) (λ end q e. absurd (handed_refused e)) (λ end q e. absurd (handed_refused e))
       (λ e. absurd (empty_refused e)) (due_of (length R) (length O) s))
 
-  pub refused_part : (w : Waiting) (k : Cause) (p : ℕ) → step.answer ≡ Refused w k p → fed_part f R O s ≡ []
+  pub refused_part : (w : Option Waiting) (k : Cause) (p : ℕ) → step.answer ≡ Refused w k p → fed_part f R O s ≡ []
   refused_part w k p e = part_by (Refused w k p) e
 
   -- a place is at most 4,096
-  abbrev PlaceLow : Waiting → Cause → ℕ → Step → Type 0
+  abbrev PlaceLow : Option Waiting → Cause → ℕ → Step → Type 0
   PlaceLow w k p t = t.answer ≡ Refused w k p → p ≤ 4096
 
-  pub refused_place : (w : Waiting) (k : Cause) (p : ℕ) → step.answer ≡ Refused w k p → p ≤ 4096
+  pub refused_place : (w : Option Waiting) (k : Cause) (p : ℕ) → step.answer ≡ Refused w k p → p ≤ 4096
   refused_place w k p =
       by_outcome f R O s (PlaceLow w k p) (λ _ e. let z = place_is e in omega arith) (λ _ _ e. let z = place_is e in omega arith)
       (λ v h.
@@ -176,14 +176,14 @@ module _ (f : ℕ) (R O : List ℕ) (s : Feed) (v : Valid f R O s) where
         rw (x, y, none_over s.response R, none_over s.other O),
       )
 
-  response_moves : (end : ℕ) → found_at Responses R s.response ≡ Right end → StepMoves (response_step (length O) s (Right end))
+  response_moves : (end : ℕ) → found_at Responses R s.response ≡ Some end → StepMoves (response_step (length O) s (Some end))
   response_moves end e =
       let h = found_within Responses R s.response v.response end e in (
         record { forward = (omega arith, omega arith); within = (h.1, v.other); one = inr refl },
         rw (none_over s.other O) (sym (append-nil (part s.response (end - s.response) R))),
       )
 
-  other_moves : (end : ℕ) → found_at Others O s.other ≡ Right end → StepMoves (other_step s (Right end))
+  other_moves : (end : ℕ) → found_at Others O s.other ≡ Some end → StepMoves (other_step s (Some end))
   other_moves end e =
       let h = found_within Others O s.other v.other end e in (
         record { forward = (omega arith, omega arith); within = (v.response, h.1); one = inl refl },

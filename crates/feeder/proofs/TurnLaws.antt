@@ -9,13 +9,14 @@ use Rattle.feeder.specs.Due.{list_of, position_of}
 use Rattle.feeder.specs.Rules.{RecordAt, Valid, Due, RunsOn, Rule, not_valid, too_long, hands_response, hands_other, both_empty, response_broken, other_broken}
 use Rattle.feeder.specs.Asks.{Lists, bytes_of, Turn, Lengthened, is_refused, Asks, Asking, none, then}
 use Rattle.feeder.specs.declared.found.Waiting.{Waiting}
-use Rattle.feeder.specs.declared.found.Waiting.TheVariants.{Responses, Others, Neither}
+use Rattle.feeder.specs.declared.found.Waiting.TheVariants.{Responses, Others}
 use Rattle.feeder.specs.declared.feed.Feed.{Feed}
 use Rattle.feeder.specs.declared.feed.Answer.{Answer}
 use Rattle.feeder.specs.declared.feed.Answer.TheVariants.{Handed, Empty}
 use Rattle.feeder.specs.declared.feed.Step.{Step}
 use Rattle.feeder.proofs.RecordCases.{record_longer}
 use Rattle.feeder.proofs.RuleLaws.{follows}
+use Rattle.std.specs.Prelude.{Some, None}
 
 -- ---- lists that are lengthened
 
@@ -45,23 +46,21 @@ waits_longer l m k at e h = let n = length-append l m in rw e (rw n (omega arith
 pub goes_on_waiting : (a b : Lists) → Lengthened a b → (w : Waiting) (at : ℕ) → at < length (bytes_of w a) → at < length (bytes_of w b)
 goes_on_waiting a b h Responses at k = waits_longer a.responses h.more_responses b.responses at h.responses k
 goes_on_waiting a b h Others at k = waits_longer a.others h.more_others b.others at h.others k
-goes_on_waiting a b h Neither at k = k
 
 -- a record stays where it stands
 pub record_stays : (a b : Lists) → Lengthened a b → (w : Waiting) (at : ℕ) (p : List ℕ) → RecordAt w (bytes_of w a) at p → RecordAt w (bytes_of w b) at p
 record_stays a b h Responses at p r = record_longer Responses a.responses h.more_responses b.responses at p h.responses r
 record_stays a b h Others at p r = record_longer Others a.others h.more_others b.others at p h.others r
-record_stays a b h Neither at p r = r
 
 -- ---- one ask
 
 -- the three answers that are no refusal
 pub data Turned (R O : List ℕ) (s : Feed) (t : Step) (p : List ℕ) : Type 0 where
-  took_response : Due Responses R O s → RecordAt Responses R s.response p → t.answer ≡ Handed Responses
+  took_response : Due (Some Responses) R O s → RecordAt Responses R s.response p → t.answer ≡ Handed Responses
       → t.feed.response ≡ s.response + length p → t.feed.other ≡ s.other → RunsOn O s t.feed.run → Turned R O s t p
-  took_other : Due Others R O s → RecordAt Others O s.other p → t.answer ≡ Handed Others
+  took_other : Due (Some Others) R O s → RecordAt Others O s.other p → t.answer ≡ Handed Others
       → t.feed.response ≡ s.response → t.feed.other ≡ s.other + length p → t.feed.run ≡ 0 → Turned R O s t p
-  took_nothing : Due Neither R O s → t.answer ≡ Empty → t.feed.response ≡ s.response → t.feed.other ≡ s.other → Turned R O s t p
+  took_nothing : Due None R O s → t.answer ≡ Empty → t.feed.response ≡ s.response → t.feed.other ≡ s.other → Turned R O s t p
 
 -- the rule that an answer follows
 rule_turned : (f : ℕ) (R O : List ℕ) (s : Feed) (t : Step) (p : List ℕ) → Rule f R O s t p → is_refused t.answer ≡ false → Valid f R O s × Turned R O s t p
@@ -101,12 +100,6 @@ responses_others e = let z : ◌≡◌ {A = ℕ} 0 1 = cc in omega arith
 pub others_responses : Others ≡ Responses → ⊥
 others_responses e = let z : ◌≡◌ {A = ℕ} 0 1 = cc in omega arith
 
-responses_neither : Responses ≡ Neither → ⊥
-responses_neither e = let z : ◌≡◌ {A = ℕ} 0 1 = cc in omega arith
-
-others_neither : Others ≡ Neither → ⊥
-others_neither e = let z : ◌≡◌ {A = ℕ} 0 1 = cc in omega arith
-
 pub moved : (w : Waiting) (R O : List ℕ) (s : Feed) (t : Step) (p : List ℕ) → Turned R O s t p → Moved w (list_of w R O) s t p
 moved Responses R O s t p (took_response d stands answer response other runs) = handed answer stands response
 moved Responses R O s t p (took_other d stands answer response other run) = stayed (other_list t.answer Others Responses answer others_responses) response
@@ -114,6 +107,3 @@ moved Responses R O s t p (took_nothing d answer response other) = stayed (not_e
 moved Others R O s t p (took_response d stands answer response other runs) = stayed (other_list t.answer Responses Others answer responses_others) other
 moved Others R O s t p (took_other d stands answer response other run) = handed answer stands other
 moved Others R O s t p (took_nothing d answer response other) = stayed (not_empty t.answer Others answer) other
-moved Neither R O s t p (took_response d stands answer response other runs) = stayed (other_list t.answer Responses Neither answer responses_neither) refl
-moved Neither R O s t p (took_other d stands answer response other run) = stayed (other_list t.answer Others Neither answer others_neither) refl
-moved Neither R O s t p (took_nothing d answer response other) = stayed (not_empty t.answer Neither answer) refl

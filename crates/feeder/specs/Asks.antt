@@ -1,5 +1,5 @@
 -- Sequences of asks (document 02, K9): who is served when, and what is handed out of each list.
-use Rattle.std.specs.Prelude.{ℕ, suc, ◌+◌, ◌-◌, ◌≡◌, Bool, true, false, List, [], ◌∷◌, ◌++◌, map, length, drop}
+use Rattle.std.specs.Prelude.{ℕ, suc, ◌+◌, ◌-◌, ◌≡◌, Bool, true, false, List, [], ◌∷◌, ◌++◌, map, length, drop, Some, None}
 use Rattle.lists.specs.Parts.{IsBytes}
 use Rattle.message.specs.Heads.{type_of}
 use Rattle.record.specs.Records.{record_of, records_of, AllMessages}
@@ -7,7 +7,7 @@ use Rattle.feeder.specs.Due.{list_of}
 use Rattle.feeder.specs.Feeding.{feeding, fed_part}
 use Rattle.feeder.specs.Rules.{Belongs, RecordAt, Valid, Short}
 use Rattle.feeder.specs.declared.found.Waiting.{Waiting}
-use Rattle.feeder.specs.declared.found.Waiting.TheVariants.{Responses, Others, Neither}
+use Rattle.feeder.specs.declared.found.Waiting.TheVariants.{Responses, Others}
 use Rattle.feeder.specs.declared.feed.Feed.{Feed}
 use Rattle.feeder.specs.declared.feed.Answer.{Answer}
 use Rattle.feeder.specs.declared.feed.Answer.TheVariants.{Handed, Empty, Refused}
@@ -119,9 +119,9 @@ lowered a b s = record { response = s.response - a; other = s.other - b; run = s
 abbrev pub lowered_answer : ℕ → ℕ → Answer → Answer
 lowered_answer a b (Handed w) = Handed w
 lowered_answer a b Empty = Empty
-lowered_answer a b (Refused Responses c p) = Refused Responses c (p - a)
-lowered_answer a b (Refused Others c p) = Refused Others c (p - b)
-lowered_answer a b (Refused Neither c p) = Refused Neither c p
+lowered_answer a b (Refused (Some Responses) c p) = Refused (Some Responses) c (p - a)
+lowered_answer a b (Refused (Some Others) c p) = Refused (Some Others) c (p - b)
+lowered_answer a b (Refused None c p) = Refused None c p
 
 abbrev pub lowered_step : ℕ → ℕ → Step → Step
 lowered_step a b t = record { feed = lowered a b t.feed; answer = lowered_answer a b t.answer }

@@ -1,11 +1,12 @@
 -- The feeder's rules as propositions (document 02, K9): each answer, with what holds where it is given.
-use Rattle.std.specs.Prelude.{ℕ, ◌+◌, ◌-◌, ◌≤◌, ◌<◌, ◌≡◌, true, List, [], ◌++◌, ◌⊎◌, length}
+use Rattle.std.specs.Prelude.{ℕ, ◌+◌, ◌-◌, ◌≤◌, ◌<◌, ◌≡◌, true, List, [], ◌++◌, ◌⊎◌, length, Option, Some, None}
 use Rattle.lists.specs.Parts.{part}
 use Rattle.cause.specs.declared.Cause.TheVariants.{BrokenRecord, TooLong, InvalidState}
 use Rattle.message.specs.Heads.{type_of, is_message}
 use Rattle.record.specs.Records.{record_of}
+use Rattle.feeder.specs.Due.{Neither}
 use Rattle.feeder.specs.declared.found.Waiting.{Waiting}
-use Rattle.feeder.specs.declared.found.Waiting.TheVariants.{Responses, Others, Neither}
+use Rattle.feeder.specs.declared.found.Waiting.TheVariants.{Responses, Others}
 use Rattle.feeder.specs.declared.feed.Feed.{Feed}
 use Rattle.feeder.specs.declared.feed.Answer.TheVariants.{Handed, Empty, Refused}
 use Rattle.feeder.specs.declared.feed.Step.{Step}
@@ -14,7 +15,6 @@ use Rattle.feeder.specs.declared.feed.Step.{Step}
 abbrev pub Belongs : Waiting → ℕ → Type 0
 Belongs Responses t = (t ≡ 3) ⊎ (t ≡ 4)
 Belongs Others t = (t ≡ 3 → ⊥) × (t ≡ 4 → ⊥)
-Belongs Neither t = ⊥
 
 -- in a list l, which is w, a whole record that belongs there stands at an offset: its size number and its message
 pub record RecordAt (w : Waiting) (l : List ℕ) (at : ℕ) (bytes : List ℕ) : Type 0 where
@@ -37,10 +37,10 @@ abbrev pub Short : List ℕ → List ℕ → Type 0
 Short responses others = (length responses ≤ 4096) × (length others ≤ 4096)
 
 -- the list that is due, or neither where none waits
-abbrev pub Due : Waiting → List ℕ → List ℕ → Feed → Type 0
-Due Responses responses others s = (s.response < length responses) × (s.other < length others → s.run < 4)
-Due Others responses others s = (s.other < length others) × (s.response < length responses → s.run ≡ 4)
-Due Neither responses others s = (length responses ≤ s.response) × (length others ≤ s.other)
+abbrev pub Due : Option Waiting → List ℕ → List ℕ → Feed → Type 0
+Due (Some Responses) responses others s = (s.response < length responses) × (s.other < length others → s.run < 4)
+Due (Some Others) responses others s = (s.other < length others) × (s.response < length responses → s.run ≡ 4)
+Due None responses others s = (length responses ≤ s.response) × (length others ≤ s.other)
 
 -- the run after a response: one more while the other list waits, else 0
 abbrev pub RunsOn : List ℕ → Feed → ℕ → Type 0
@@ -55,22 +55,22 @@ pub data Rule (f : ℕ) (responses others : List ℕ) (s : Feed) : Step → List
   too_long : Valid f responses others s → (Short responses others → ⊥)
       → Rule f responses others s (record { feed = s; answer = Refused Neither TooLong 0 }) []
   -- "hands out a part of one of the two lists"
-  hands_response : Valid f responses others s → Short responses others → Due Responses responses others s
+  hands_response : Valid f responses others s → Short responses others → Due (Some Responses) responses others s
       → (bytes : List ℕ) → RecordAt Responses responses s.response bytes → (n : ℕ) → RunsOn others s n
       → Rule f responses others s (record { feed = record { response = s.response + length bytes; other = s.other; run = n }; answer = Handed Responses }) bytes
-  hands_other : Valid f responses others s → Short responses others → Due Others responses others s
+  hands_other : Valid f responses others s → Short responses others → Due (Some Others) responses others s
       → (bytes : List ℕ) → RecordAt Others others s.other bytes
       → Rule f responses others s (record { feed = record { response = s.response; other = s.other + length bytes; run = 0 }; answer = Handed Others }) bytes
   -- "or says that both are empty"
   both_empty : Valid f responses others s → Short responses others → Due Neither responses others s
       → Rule f responses others s (record { feed = record { response = s.response; other = s.other; run = 0 }; answer = Empty }) []
   -- "If the record due is broken or in the wrong list, that is cause 17 with the list named and the offset as place, and neither list moves"
-  response_broken : Valid f responses others s → Short responses others → Due Responses responses others s
+  response_broken : Valid f responses others s → Short responses others → Due (Some Responses) responses others s
       → ((bytes : List ℕ) → RecordAt Responses responses s.response bytes → ⊥)
-      → Rule f responses others s (record { feed = s; answer = Refused Responses BrokenRecord s.response }) []
-  other_broken : Valid f responses others s → Short responses others → Due Others responses others s
+      → Rule f responses others s (record { feed = s; answer = Refused (Some Responses) BrokenRecord s.response }) []
+  other_broken : Valid f responses others s → Short responses others → Due (Some Others) responses others s
       → ((bytes : List ℕ) → RecordAt Others others s.other bytes → ⊥)
-      → Rule f responses others s (record { feed = s; answer = Refused Others BrokenRecord s.other }) []
+      → Rule f responses others s (record { feed = s; answer = Refused (Some Others) BrokenRecord s.other }) []
 
 -- bytes handed out of a list are those between the old and the new position, and there are some
 pub record Between (l : List ℕ) (old new : ℕ) (bytes : List ℕ) : Type 0 where

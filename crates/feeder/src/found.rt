@@ -6,19 +6,11 @@ use message::count_responses;
 use record::{First, read_record};
 use slices::byte_at;
 
-// One of the two waiting lists, or neither.
-#[derive(Clone, Copy)]
+// One of the two waiting lists.
+#[derive(Clone, Copy, Debug, PartialEq, Eq)]
 pub enum Waiting {
     Responses,
     Others,
-    Neither,
-}
-
-// What stands at a position of a list: a record that belongs there, up to its end, or a broken or misplaced one.
-#[derive(Clone, Copy)]
-pub enum Found {
-    Right { end: usize },
-    Wrong,
 }
 
 // Whether messages of a type are responses.
@@ -35,24 +27,16 @@ fn belongs(list: Waiting, msgtype: u8) -> bool
     match list {
         Waiting::Responses => is_response(msgtype),
         Waiting::Others => !is_response(msgtype),
-        Waiting::Neither => false,
     }
 }
 
-// Judges the record at a position of a waiting list with these bytes.
-pub(crate) fn find_record(list: Waiting, bytes: &[u8], at: usize) -> Found
+// The end of the record at a position of a waiting list with these bytes, none where it is broken or misplaced.
+pub(crate) fn find_record(list: Waiting, bytes: &[u8], at: usize) -> Option<usize>
     requires { at ≤ length bytes.now }
     ensures { result ≡ found_at list bytes.now at }
 {
-    let first = read_record(&bytes[at..]);
-    match first {
-        First::Empty => Found::Wrong,
-        First::Bad => Found::Wrong,
-        First::Whole { start, end } => {
-            if belongs(list, byte_at(bytes, at + start) % 16) {
-                return Found::Right { end: at + end };
-            }
-            Found::Wrong
-        }
-    }
+    let First::Whole { start, end } = read_record(&bytes[at..]) else {
+        return None;
+    };
+    belongs(list, byte_at(bytes, at + start) % 16).then_some(at + end)
 }

@@ -13,12 +13,13 @@ use Rattle.lists.specs.Parts.{IsBytes}
 use Rattle.lists.proofs.PickLaws.{pick_by}
 use Rattle.record.specs.Number.{largest, number, read_number}
 use Rattle.record.specs.declared.number.Number.{Number}
-use Rattle.record.specs.declared.number.Number.TheVariants as counted
+use Rattle.record.specs.Number as counted
 use Rattle.record.proofs.NumberLaws.{written_read, read_written}
 use Rattle.record.proofs.NumberTakes.{number_takes}
 use Rattle.frame.specs.Framing.{framed_by, framing}
 use Rattle.frame.specs.declared.Framed.{Framed}
 use Rattle.frame.specs.declared.Framed.TheVariants.{Broken, Short, Whole}
+use Rattle.std.specs.Prelude.{Option, Some, None}
 
 -- ---- the frame by the number
 
@@ -44,10 +45,10 @@ pub data Front (l : List ℕ) : Framed → Type 0 where
   short : (v u : ℕ) → read_number l ≡ counted.Value v u → length l < u + 256 → Front l Short
   whole : (v u : ℕ) → read_number l ≡ counted.Value v u → u + 256 ≤ length l → Front l (Whole v (v % 2) u)
 
-front_by : (l : List ℕ) (r : Number) → read_number l ≡ r → Front l (framed_by l r)
-front_by l counted.Broken e = broken e
-front_by l (counted.Value v u) e =
-    pick_by (Front l) (ltb (length l) (u + 256)) (λ t. short v u e (ltb-true (length l) (u + 256) t)) (λ t. whole v u e (ltb-false (length l) (u + 256) t))
+front_by : (l : List ℕ) (r : Option Number) → read_number l ≡ r → Front l (framed_by l r)
+front_by l None e = broken e
+front_by l (Some number) e =
+    pick_by (Front l) (ltb (length l) (number.used + 256)) (λ t. short number.value number.used e (ltb-true (length l) (number.used + 256) t)) (λ t. whole number.value number.used e (ltb-false (length l) (number.used + 256) t))
 
 pub front_of : (l : List ℕ) → Front l (framing l)
 unfolding framing

@@ -10,7 +10,7 @@ use record::{Number, read_number};
 
 // What stands at the front of bytes: no number, a number with fewer bytes behind it than a container has, or a whole entry, whose container
 // begins at `start`.
-#[derive(Clone, Copy)]
+#[derive(Clone, Copy, Debug, PartialEq, Eq)]
 pub enum Framed {
     Broken,
     Short,
@@ -25,18 +25,15 @@ pub enum Framed {
 pub fn frame_entry(bytes: &[u8]) -> Framed
     ensures { result ≡ framing bytes.now }
 {
-    let number = read_number(bytes);
-    match number {
-        Number::Broken => Framed::Broken,
-        Number::Value { value, used } => {
-            if bytes.len() < used + CONTAINER {
-                return Framed::Short;
-            }
-            Framed::Whole {
-                number: value,
-                direction: (value % 2) as usize,
-                start: used,
-            }
-        }
+    let Some(Number { value, used }) = read_number(bytes) else {
+        return Framed::Broken;
+    };
+    if bytes.len() < used + CONTAINER {
+        return Framed::Short;
+    }
+    Framed::Whole {
+        number: value,
+        direction: (value % 2) as usize,
+        start: used,
     }
 }

@@ -1,12 +1,12 @@
 -- The feeder from C (document 02, K9): one call over a feed of three lent numbers, two lent lists and lent room.
-use Rattle.std.specs.Prelude.{ℕ, ◌+◌, ◌*◌, ◌/◌, ◌%◌, ◌≤◌, ◌≡◌, ◌&&◌, List, [], ◌∷◌, length, get_or, eqb, leb}
+use Rattle.std.specs.Prelude.{ℕ, ◌+◌, ◌*◌, ◌/◌, ◌%◌, ◌≤◌, ◌≡◌, ◌&&◌, List, [], ◌∷◌, length, get_or, eqb, leb, Option, Some, None}
 use Rattle.lists.specs.Parts.{put}
 use Rattle.cause.specs.Causes.{cause_number}
 use Rattle.cause.specs.Checks.{Check, check, first_fault, when_accepted}
 use Rattle.cause.specs.declared.Cause.TheVariants.{RoomTooSmall, InvalidState}
 use Rattle.feeder.specs.Feeding.{feed_ok, step_by, feeding, fed_part}
 use Rattle.feeder.specs.declared.found.Waiting.{Waiting}
-use Rattle.feeder.specs.declared.found.Waiting.TheVariants.{Responses, Others, Neither}
+use Rattle.feeder.specs.declared.found.Waiting.TheVariants.{Responses, Others}
 use Rattle.feeder.specs.declared.feed.Feed.{Feed}
 use Rattle.feeder.specs.declared.feed.Answer.{Answer}
 use Rattle.feeder.specs.declared.feed.Answer.TheVariants.{Handed, Empty, Refused}
@@ -41,14 +41,14 @@ asking f n responses others room =
     (feeding f responses others (feed_from n))
 
 -- the number of a list
-abbrev pub list_number : Waiting → ℕ
-list_number Neither = 0
-list_number Responses = 1
-list_number Others = 2
+abbrev pub list_number : Option Waiting → ℕ
+list_number None = 0
+list_number (Some Responses) = 1
+list_number (Some Others) = 2
 
 -- list·65,536 + the record's bytes, 0 where both lists are empty, or cause·16,777,216 + list·65,536 + place
 abbrev pub answer_code : Answer → ℕ → ℕ
-answer_code (Handed w) bytes = list_number w * 65_536 + bytes
+answer_code (Handed w) bytes = list_number (Some w) * 65_536 + bytes
 answer_code Empty bytes = 0
 answer_code (Refused w c p) bytes = cause_number c * 16_777_216 + list_number w * 65_536 + p
 
@@ -76,6 +76,6 @@ feed_room f n responses others room =
 -- what a code tells: its highest byte is the cause, 0 where nothing is refused, the next one the list, and the rest the record's bytes or
 -- the place
 abbrev pub Told : Answer → ℕ → ℕ → Type 0
-Told (Handed w) bytes code = (code / 16_777_216 ≡ 0) × (code / 65_536 % 256 ≡ list_number w) × (code % 65_536 ≡ bytes)
+Told (Handed w) bytes code = (code / 16_777_216 ≡ 0) × (code / 65_536 % 256 ≡ list_number (Some w)) × (code % 65_536 ≡ bytes)
 Told Empty bytes code = code ≡ 0
 Told (Refused w c p) bytes code = (code / 16_777_216 ≡ cause_number c) × (code / 65_536 % 256 ≡ list_number w) × (code % 65_536 ≡ p)

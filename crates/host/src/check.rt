@@ -6,19 +6,13 @@ use cause::number_cause;
 use reader::{Answer, Reader};
 
 // Checks one container from a fresh state: 0, or cause · 65,536 + place; the room ends as the reader leaves it.
+#[tactic(auto, using(reader::proofs::PlaceLaws::refused_place, cause::proofs::CauseLaws::number_most), unfolding(crate::specs::Check::check_code, crate::specs::Check::check_room))]
 pub fn c2c_check(format: u32, container: &[u8], room: &mut [u8]) -> u32
     ensures code { result ≡ check_code format container.now (length room.old) }
     ensures room { room.new ≡ check_room format container.now room.old }
 {
-    let created = Reader::fresh(format);
-    let reader = created.reader;
-    let step = reader.read(container, room);
-    let answer = step.answer;
-    match answer {
-        Answer::Accepted {
-            written: _,
-            grant: _,
-        } => 0,
+    match Reader::empty(format).read(container, room).answer {
+        Answer::Accepted { .. } => 0,
         Answer::Refused { cause, place } => number_cause(cause) * 65536 + place as u32,
     }
 }

@@ -1,12 +1,12 @@
 // The feeder for a host written in C: a feed of three lent numbers, and the record copied to lent room.
-ghost use Rattle.std.specs.Prelude.{◌≡◌, ◌≤◌, length};
+ghost use Rattle.std.specs.Prelude.{◌≡◌, ◌≤◌, length, IfOk};
 ghost use Rattle.lists.specs.Parts.{put};
-ghost use Rattle.cause.specs.Checks.{first_fault};
+ghost use Rattle.cause.specs.Checks.{first_fault, given};
 ghost use Rattle.feeder.specs.Rules.{Moves, moved_over};
 ghost use Rattle.host.specs.Feed.{feed_from, numbers_of, PositionsFit, list_number, answer_code, Small, call_checks, feed_code, feed_numbers, feed_room};
 
-use cause::{Cause, Verdict, number_cause};
-use feeder::{Answer, Feed, Waiting};
+use cause::{Cause, Fault, number_cause};
+use feeder::{Answer, Feed, Step, Waiting};
 use slices::copy_into;
 
 // The numbers of a feed.
@@ -15,21 +15,14 @@ const NUMBERS: usize = 3;
 // The bytes of the longest record: a message of 120 behind its size number.
 const LONGEST_RECORD: usize = 121;
 
-// A number of 32 bits as a position.
-fn widen(number: u32) -> usize
-    ensures { (result ≡ number) × (result ≤ 4294967295) }
-{
-    number as usize
-}
-
 // The feed of three numbers.
 fn load_feed(numbers: &[u32]) -> Feed
     requires { length numbers.now ≡ 3 }
     ensures { (result ≡ feed_from numbers.now) × PositionsFit result }
 {
     Feed {
-        response: widen(numbers[0]),
-        other: widen(numbers[1]),
+        response: numbers[0] as usize,
+        other: numbers[1] as usize,
         run: numbers[2],
     }
 }
@@ -51,39 +44,44 @@ fn copy_record(room: &mut [u8], old: Feed, next: Feed, responses: &[u8], others:
     ensures bytes { result ≡ length (moved_over responses.now others.now old next) }
     ensures room { room.new ≡ put 0 (moved_over responses.now others.now old next) room.old }
 {
-    let response = old.response;
-    let other = old.other;
-    let response_end = next.response;
-    let other_end = next.other;
-    copy_into(room, 0, &responses[response..response_end]);
-    copy_into(room, 0, &others[other..other_end]);
-    (response_end - response) + (other_end - other)
+    copy_into(room, 0, &responses[old.response..next.response]);
+    copy_into(room, 0, &others[old.other..next.other]);
+    (next.response - old.response) + (next.other - old.other)
 }
 
-// The verdict on state and room of a call: causes 19 and 2.
-fn check_call(format: u32, numbers: &[u32], responses: usize, others: usize, room: usize) -> Verdict
-    ensures { result ≡ first_fault (call_checks format numbers.now responses others room) }
+// The feed of a call, where state and room are fit for it: causes 19 and 2.
+#[tactic(auto, unfolding(crate::specs::Feed::call_checks))]
+fn load_call(
+    format: u32,
+    numbers: &[u32],
+    responses: usize,
+    others: usize,
+    room: usize,
+) -> Result<Feed, Fault>
+    ensures feed { result ≡ given (first_fault (call_checks format numbers.now responses others room)) (feed_from numbers.now) }
+    ensures fits { IfOk result PositionsFit }
 {
     if numbers.len() != NUMBERS {
-        return Verdict::Refused(Cause::InvalidState, 0);
+        return Err(Cause::InvalidState.at(0));
     }
-    if !load_feed(numbers).is_valid(format, responses, others) {
-        return Verdict::Refused(Cause::InvalidState, 0);
+    let feed = load_feed(numbers);
+    if !feed.is_valid(format, responses, others) {
+        return Err(Cause::InvalidState.at(0));
     }
     if room < LONGEST_RECORD {
-        return Verdict::Refused(Cause::RoomTooSmall, 0);
+        return Err(Cause::RoomTooSmall.at(0));
     }
-    Verdict::Accepted
+    Ok(feed)
 }
 
-// The number of a waiting list.
-fn number_list(list: Waiting) -> u32
+// The number of a waiting list, 0 for none.
+fn number_list(list: Option<Waiting>) -> u32
     ensures { result ≡ list_number list }
 {
     match list {
-        Waiting::Neither => 0,
-        Waiting::Responses => 1,
-        Waiting::Others => 2,
+        None => 0,
+        Some(Waiting::Responses) => 1,
+        Some(Waiting::Others) => 2,
     }
 }
 
@@ -93,12 +91,31 @@ fn encode_answer(answer: Answer, bytes: usize) -> u32
     ensures { result ≡ answer_code answer bytes }
 {
     match answer {
-        Answer::Handed { list } => number_list(list) * 65536 + bytes as u32,
+        Answer::Handed { list } => number_list(Some(list)) * 65536 + bytes as u32,
         Answer::Empty => 0,
         Answer::Refused { list, cause, place } => {
             number_cause(cause) * 16777216 + number_list(list) * 65536 + place as u32
         }
     }
+}
+
+// Asks for the next record, copies it and stores the next feed; answers the code, or the fault of the call.
+fn ask(
+    format: u32,
+    feed: &mut [u32],
+    responses: &[u8],
+    others: &[u8],
+    room: &mut [u8],
+) -> Result<u32, Fault>
+    ensures code { result ≡ given (first_fault (call_checks format feed.old (length responses.now) (length others.now) (length room.old))) (feed_code format feed.old responses.now others.now (length room.old)) }
+    ensures feed { feed.new ≡ feed_numbers format feed.old responses.now others.now (length room.old) }
+    ensures room { room.new ≡ feed_room format feed.old responses.now others.now room.old }
+{
+    let asked = load_call(format, feed, responses.len(), others.len(), room.len())?;
+    let Step { feed: next, answer } = asked.next_step(format, responses, others);
+    let bytes = copy_record(room, asked, next, responses, others);
+    store_feed(feed, next);
+    Ok(encode_answer(answer, bytes))
 }
 
 // Asks for the next record of two waiting lists: cause · 16,777,216 + list · 65,536 + the record's bytes or the place.
@@ -113,20 +130,15 @@ pub fn c2c_feed(
     ensures feed { feed.new ≡ feed_numbers format feed.old responses.now others.now (length room.old) }
     ensures room { room.new ≡ feed_room format feed.old responses.now others.now room.old }
 {
-    let verdict = check_call(format, feed, responses.len(), others.len(), room.len());
-    if let Verdict::Refused(cause, place) = verdict {
-        let refusal = Answer::Refused {
-            list: Waiting::Neither,
-            cause: cause,
-            place: place,
-        };
-        return encode_answer(refusal, 0);
+    match ask(format, feed, responses, others, room) {
+        Ok(code) => code,
+        Err(Fault { cause, place }) => {
+            let refusal = Answer::Refused {
+                list: None,
+                cause,
+                place,
+            };
+            encode_answer(refusal, 0)
+        }
     }
-    let asked = load_feed(feed);
-    let step = asked.next_step(format, responses, others);
-    let next = step.feed;
-    let bytes = copy_record(room, asked, next, responses, others);
-    store_feed(feed, next);
-    let answer = step.answer;
-    encode_answer(answer, bytes)
 }

@@ -9,9 +9,8 @@ use lib.Seq.{get_or-append-add}
 use lib.Dec.{eqb, ltb, leb}
 use borrow.Author.Tests.{eqb-true, ltb-true, leb-true, eq-eqb, ne_eqb, lt-ltb, le-leb}
 use Rattle.lists.proofs.Tests.{and_left, and_right, and_both}
-use Rattle.cause.specs.Checks.{Pass, first_fault}
+use Rattle.cause.specs.Checks.{Pass, first_fault, Accepted}
 use Rattle.cause.specs.declared.Cause.TheVariants.{BegunOverGranted, GrantedOverCapacity}
-use Rattle.cause.specs.declared.Verdict.TheVariants.{Accepted}
 use Rattle.cause.proofs.EachLaws.{Each, each_passes, passes_each}
 use Rattle.cause.proofs.CheckLaws.{accepted_pass, pass_accepted, pass_front, pass_back, pass_append}
 use Rattle.container.specs.Layout.{format_of}

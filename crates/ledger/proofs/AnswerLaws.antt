@@ -3,13 +3,12 @@ use Prim.Native.Nat.{ℕ}
 use mathlib.Core.Path.{◌≡◌, refl, ap, ◌∙◌}
 use mathlib.Core.Bool.{true}
 use mathlib.Core.List.{List}
-use Rattle.cause.specs.Checks.{first_fault, when_accepted}
+use Rattle.cause.specs.Checks.{first_fault, when_accepted, Verdict, Accepted, Refused}
 use Rattle.cause.specs.declared.Cause.{Cause}
-use Rattle.cause.specs.declared.Verdict.{Verdict}
-use Rattle.cause.specs.declared.Verdict.TheVariants.{Accepted, Refused}
 use Rattle.ledger.specs.Audit.{ledger_ok, audit_checks, next_ledger, auditing}
 use Rattle.ledger.specs.declared.ledger.Ledger.{Ledger}
 use Rattle.ledger.proofs.AcceptedLaws.{accepted_by, next_ledger_valid}
+use Rattle.std.specs.Prelude.{Ok, Err}
 
 module _ (s : Ledger) (d : ℕ) (c : List ℕ) where
   -- an accepted entry leaves a valid ledger
@@ -27,8 +26,8 @@ module _ (s : Ledger) (d : ℕ) (c : List ℕ) where
 -- the ledger behind a verdict on the checks
 kept_by : (s : Ledger) (d : ℕ) (c : List ℕ) (v : Verdict) → first_fault (audit_checks s d c) ≡ v → ledger_ok s ≡ true
     → ledger_ok (when_accepted v (next_ledger s d c) s) ≡ true
-kept_by s d c Accepted e h = next_ledger_valid s d c (accepted_by s d c e)
-kept_by s d c (Refused k p) e h = h
+kept_by s d c (Ok _) e h = next_ledger_valid s d c (accepted_by s d c e)
+kept_by s d c (Err fault) e h = h
 
 -- an audit leaves a valid ledger, whether it accepts or refuses
 pub audit_keeps : (s : Ledger) (d : ℕ) (c : List ℕ) → ledger_ok s ≡ true → ledger_ok (auditing s d c).ledger ≡ true

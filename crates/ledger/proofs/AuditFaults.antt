@@ -8,10 +8,9 @@ use native.Mathlib.Omega.{arith}
 use lib.ListN.{length}
 use lib.Dec.{eqb, ltb, leb}
 use borrow.Author.Tests.{le-ltb, lt-leb, ne_eqb, ltb-false, leb-false, eqb-false}
-use Rattle.cause.specs.Checks.{Check, check}
+use Rattle.cause.specs.Checks.{Check, check, Accepted, Refused}
 use Rattle.cause.specs.declared.Cause.{Cause}
 use Rattle.cause.specs.declared.Cause.TheVariants.{InvalidState, ContainerLength, MissingPool, MissingGrantPool, BegunOverGranted, GrantedOverCapacity}
-use Rattle.cause.specs.declared.Verdict.TheVariants.{Accepted, Refused}
 use Rattle.container.specs.Layout.{Format, format_of}
 use Rattle.container.specs.Grants.{header_grant}
 use Rattle.placement.specs.Cells.{Cell}

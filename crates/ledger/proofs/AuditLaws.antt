@@ -1,6 +1,6 @@
 -- The audit of an entry by the verdicts of its parts: what refuses it, and what it settles. Assumes nothing.
 use Prim.Native.Nat.{ℕ, zero, suc, ◌+◌, ◌-◌, ◌/◌, ◌%◌, ◌^◌, ◌≤◌, ◌<◌}
-use mathlib.Core.Path.{◌≡◌, sym, ap, ap₂, ◌∙◌}
+use mathlib.Core.Path.{◌≡◌, refl, sym, ap, ap₂, ◌∙◌}
 use mathlib.Core.Bool.{Bool, true, false, ◌&&◌, not}
 use mathlib.Core.List.{List, [], ◌∷◌, ◌++◌}
 use mathlib.Core.Logic.{⊎_elim}
@@ -10,12 +10,13 @@ use lib.Dec.{ltb}
 use borrow.Author.Tests.{eq-eqb, ne_eqb, lt-ltb, ltb-true, leb-true, not-true, not-false}
 use Rattle.lists.proofs.Order.{lt_or_le}
 use Rattle.lists.proofs.Tests.{and_left, and_right}
-use Rattle.cause.specs.Checks.{Check, Pass, first_fault}
+use Rattle.cause.specs.Checks.{Check, Pass, first_fault, given, Verdict, Accepted, Refused}
 use Rattle.cause.specs.declared.Cause.{Cause}
 use Rattle.cause.specs.declared.Cause.TheVariants.{InvalidState, ContainerLength}
-use Rattle.cause.specs.declared.Verdict.{Verdict}
-use Rattle.cause.specs.declared.Verdict.TheVariants.{Accepted, Refused}
+use Rattle.cause.specs.declared.Fault.{Fault}
+use Rattle.cause.proofs.GivenLaws.{given_refused}
 use Rattle.cause.proofs.CheckLaws.{accepted_pass}
+use Rattle.std.specs.Prelude.{Result, Ok, Err}
 use Rattle.container.specs.Layout.{format_of, msg_start, header}
 use Rattle.container.specs.Grants.{header_grant}
 use Rattle.container.specs.declared.grant.Grant.{Grant}
@@ -29,13 +30,12 @@ use Rattle.pools.specs.Pools.{message_checks, grant_checks, charged_to, paid_to,
 use Rattle.ledger.specs.Entries.{cells_in}
 use Rattle.ledger.specs.Audit.{receiver_of, reader_of, ledger_ok, opposite, begun, granted, credit_checks, capacity_checks, audit_checks, auditing}
 use Rattle.pools.specs.Rows.{row, nested, flattened, entry_of, rows}
-use Rattle.pools.specs.TalliesMirror.{starts_checks, starts_pay, grant_check, crdt_checks, crdt_gives, Tallied}
-use Rattle.pools.specs.Tallies.{begun_tally, grants_give, granted_tally}
+use Rattle.pools.specs.TalliesMirror.{starts_checks, starts_pay, grant_check, crdt_checks, crdt_gives}
+use Rattle.pools.specs.Tallies.{tally_of, begun_tally, grants_give, granted_tally}
 use Rattle.ledger.specs.CountingMirror.{credit_row_checks, capacity_row_checks, settled_held, settled_open, entered, count_checks, settling}
 use Rattle.pools.specs.declared.receiver.Receiver.{Receiver}
 use Rattle.ledger.specs.declared.ledger.Ledger.{Ledger}
 use Rattle.ledger.specs.declared.ledger.Step.{Step}
-use Rattle.pools.specs.declared.tally.Tally.{Tally}
 use Rattle.pools.proofs.RowLaws.{row_equal}
 use Rattle.cause.proofs.EachLaws.{Each, each_passes}
 use Rattle.ledger.proofs.CountLaws.{short_checks, over_checks}
@@ -43,6 +43,15 @@ use Rattle.pools.proofs.PassLaws.{stops_before, goes_behind, begun_is, granted_i
 use Rattle.pools.proofs.EntryLaws.{starts_checks_law, starts_pay_law, crdt_checks_law, crdt_gives_law}
 use Rattle.ledger.proofs.ValidLaws.{ledger_valid}
 use Rattle.ledger.proofs.SettleLaws.{skip, paid_row, given_row, settles}
+
+-- ---- what is given where a verdict is an acceptance
+
+given_faulty : (v : Verdict) {A : Type 0} (a : A) {f : Fault} → given v a ≡ Err f → v ≡ Err f
+given_faulty v a {f} e = (given_refused a v f.cause f.place).0 e
+
+given_whole : (v : Verdict) {A : Type 0} (a : A) {x : A} → given v a ≡ Ok x → (v ≡ Accepted) × (x ≡ a)
+given_whole (Ok _) a e = (refl, cc)
+given_whole (Err fault) a e = let z : ◌≡◌ {A = ℕ} 0 1 = cc in absurd (omega arith)
 
 -- ---- the pools
 
@@ -77,12 +86,12 @@ module _ (s : Ledger) (d : ℕ) (next : Carry) (begun granted : List ℕ) {held 
   short_verdict : v ≡ first_fault shorts
   short_verdict = ev ∙ ap (λ (t : List (List ℕ)). first_fault (credit_row_checks (get_or t d []) begun 14 0)) eh
 
-  settle_refused : {k : Cause} {p : ℕ} → first_fault (count_checks s d begun granted) ≡ Refused k p → {r : Step} → r ≡ record { ledger = s; answer = Refused k p } → r ≡ settling s d next begun granted
+  settle_refused : {f : Fault} → first_fault (count_checks s d begun granted) ≡ Err f → {r : Step} → r ≡ record { ledger = s; answer = Err f } → r ≡ settling s d next begun granted
   unfolding settling
   settle_refused e er = er ∙ rw e
 
-  pub short_refused : {k : Cause} {p : ℕ} → v ≡ Refused k p → {r : Step} → r ≡ record { ledger = s; answer = Refused k p } → r ≡ settling s d next begun granted
-  short_refused e er = settle_refused (sym (stops_before shorts overs short_verdict e) ∙ e) er
+  pub short_refused : {f : Fault} → v ≡ Err f → {r : Step} → r ≡ record { ledger = s; answer = Err f } → r ≡ settling s d next begun granted
+  short_refused e er = settle_refused (stops_before shorts overs short_verdict e) er
 
   module _ (sound : v ≡ Accepted) where
     pub begun_covered : length begun ≡ 14 → (p : ℕ) → get_or begun p 0 ≤ entry_of held d p
@@ -101,7 +110,7 @@ module _ (s : Ledger) (d : ℕ) (next : Carry) (begun granted : List ℕ) {held 
       count_verdict : first_fault (count_checks s d begun granted) ≡ w
       count_verdict = goes_behind shorts overs short_verdict sound ∙ sym over_verdict
 
-      pub over_refused : {k : Cause} {p : ℕ} → w ≡ Refused k p → {x : Step} → x ≡ record { ledger = s; answer = Refused k p } → x ≡ settling s d next begun granted
+      pub over_refused : {f : Fault} → w ≡ Err f → {x : Step} → x ≡ record { ledger = s; answer = Err f } → x ≡ settling s d next begun granted
       over_refused e ex = settle_refused (count_verdict ∙ e) ex
 
       module _ (fine : w ≡ Accepted) where
@@ -131,19 +140,20 @@ module _ (s : Ledger) (d : ℕ) (next : Carry) (begun granted : List ℕ) {held 
 -- ---- the entry
 
 module _ (s : Ledger) (d : ℕ) (c : List ℕ) where
-  audit_refused : {k : Cause} {p : ℕ} → first_fault (audit_checks s d c) ≡ Refused k p → {r : Step} → r ≡ record { ledger = s; answer = Refused k p } → r ≡ auditing s d c
+  audit_refused : {f : Fault} → first_fault (audit_checks s d c) ≡ Err f → {r : Step} → r ≡ record { ledger = s; answer = Err f } → r ≡ auditing s d c
   unfolding auditing
   audit_refused e er = er ∙ rw e
 
   module _ {t : Bool} (et : t ≡ (ltb d 2 && ledger_ok s)) where
-    pub audit_invalid : not t ≡ true → {r : Step} → r ≡ record { ledger = s; answer = Refused InvalidState 0 } → r ≡ auditing s d c
+    pub audit_invalid : not t ≡ true → {f : Fault} → f ≡ record { cause = InvalidState; place = 0 } → {r : Step} → r ≡ record { ledger = s; answer = Err f } → r ≡ auditing s d c
     unfolding audit_checks
-    audit_invalid n er = audit_refused (rw (sym et ∙ not-true t n)) er
+    audit_invalid n ef er = audit_refused (rw (sym et ∙ not-true t n)) (er ∙ ap (λ (f : Fault). record { ledger = s; answer = Err f }) ef)
 
     module _ (n : not t ≡ false) where
-      pub audit_long : (length c ≡ 256 → ⊥) → {r : Step} → r ≡ record { ledger = s; answer = Refused ContainerLength 0 } → r ≡ auditing s d c
+      pub audit_long : (length c ≡ 256 → ⊥) → {f : Fault} → f ≡ record { cause = ContainerLength; place = 0 } → {r : Step} → r ≡ record { ledger = s; answer = Err f } → r ≡ auditing s d c
       unfolding audit_checks
-      audit_long e er = audit_refused (rw (sym et ∙ not-false t n, ne_eqb (length c) 256 e)) er
+      audit_long e ef er =
+          audit_refused (rw (sym et ∙ not-false t n, ne_eqb (length c) 256 e)) (er ∙ ap (λ (f : Fault). record { ledger = s; answer = Err f }) ef)
 
       pub audit_admitted : (d < 2) × (ledger_ok s ≡ true)
       audit_admitted = let e = sym et ∙ not-false t n in (ltb-true d 2 (and_left (ltb d 2) (ledger_ok s) e), and_right (ltb d 2) (ledger_ok s) e)
@@ -172,8 +182,10 @@ module _ (s : Ledger) (d : ℕ) (c : List ℕ) where
     judge_verdict = judge_state (reader_of s d) c (ledger_valid s d v h).reader n
 
     -- a container that does not read
-    pub read_refused : {k : Cause} {p : ℕ} → first_fault (judge_checks (reader_of s d) c) ≡ Refused k p → {r : Step} → r ≡ record { ledger = s; answer = Refused k p } → r ≡ auditing s d c
-    read_refused e er = audit_refused (entry_accepted ∙ sym (stops_before state (messages ++ (grants ++ pools)) judge_verdict e) ∙ e) er
+    pub read_refused : {k : Cause} {p : ℕ} → first_fault (judge_checks (reader_of s d) c) ≡ Refused k p → {f : Fault} → f ≡ record { cause = k; place = p }
+        → {r : Step} → r ≡ record { ledger = s; answer = Err f } → r ≡ auditing s d c
+    read_refused e ef er =
+        audit_refused (entry_accepted ∙ stops_before state (messages ++ (grants ++ pools)) judge_verdict e) (er ∙ ap (λ (f : Fault). record { ledger = s; answer = Err f }) ef)
 
     module _ (j : first_fault (judge_checks (reader_of s d) c) ≡ Accepted) where
       reads : Pass state
@@ -184,51 +196,48 @@ module _ (s : Ledger) (d : ℕ) (c : List ℕ) where
       next_short e = rw e (valid_short (next_reader (reader_of s d) c) (next_valid (reader_of s d) c j))
 
       -- 14 by the messages that start
-      module _ {r : Receiver} (er : r ≡ receiver_of s d) {w : ℕ} (ew : w ≡ msg_start (format_of s.format) c) {t : Tally} (counted : t ≡ begun_tally r c w) where
-        et : Tallied (starts_checks r c w 12 0) (starts_pay c w 12 0) t
-        et = begun_is r c w n counted
-
-        begun_verdict : t.verdict ≡ first_fault messages
-        begun_verdict =
-            et.verdict ∙ (λ i. first_fault (starts_checks (er i) c (ew i) 12 0))
-            ∙ ap first_fault (starts_checks_law s.format c n (receiver_of s d) 12 0 (carried (reader_of s d)) (omega arith))
-
-        begun_counts : t.verdict ≡ Accepted → t.counts ≡ paid_row s d c h
+      module _ {r : Receiver} (er : r ≡ receiver_of s d) {w : ℕ} (ew : w ≡ msg_start (format_of s.format) c) {t : Result (List ℕ) Fault} (counted : t ≡ begun_tally r c w) where
+        begun_told : t ≡ given (first_fault messages) (paid_row s d c h)
         unfolding begun
-        begun_counts e =
-            et.counts e ∙ ap (λ (x : ℕ). row (starts_pay c x 12 0) 14 0) ew
-            ∙ row_equal (starts_pay c (msg_start (format_of s.format) c) 12 0) (λ p. paid_to p (begun s d c)) (λ p b. starts_pay_law s.format c n p 12 0 (carried (reader_of s d)) (omega arith))
+        begun_told =
+            counted ∙ begun_is r c w n ∙ (λ i. tally_of (starts_checks (er i) c (ew i) 12 0) (starts_pay c (ew i) 12 0))
+            ∙ ap (λ (l : List Check). tally_of l (starts_pay c (msg_start (format_of s.format) c) 12 0)) (starts_checks_law s.format c n (receiver_of s d) 12 0 (carried (reader_of s d)) (omega arith))
+            ∙ ap (given (first_fault messages))
+            (row_equal (starts_pay c (msg_start (format_of s.format) c) 12 0) (λ p. paid_to p (begun s d c)) (λ p b. starts_pay_law s.format c n p 12 0 (carried (reader_of s d)) (omega arith)))
 
-        pub begun_refused : {k : Cause} {p : ℕ} → t.verdict ≡ Refused k p → {x : Step} → x ≡ record { ledger = s; answer = Refused k p } → x ≡ auditing s d c
+        pub begun_refused : {f : Fault} → t ≡ Err f → {x : Step} → x ≡ record { ledger = s; answer = Err f } → x ≡ auditing s d c
         begun_refused e ex =
-            audit_refused (entry_accepted ∙ skip state (messages ++ (grants ++ pools)) reads ∙ sym (stops_before messages (grants ++ pools) begun_verdict e) ∙ e) ex
+            audit_refused (entry_accepted ∙ skip state (messages ++ (grants ++ pools)) reads
+            ∙ stops_before messages (grants ++ pools) refl (given_faulty (first_fault messages) (paid_row s d c h) (sym begun_told ∙ e))) ex
 
         -- 21 by the grants
-        module _ (sound : t.verdict ≡ Accepted) {q : Receiver} (eq : q ≡ receiver_of s o) {g : Grant} (eg : g ≡ header_grant (format_of s.format) c) {u : Tally} (given : u ≡ granted_tally q g c w) where
-          eu : Tallied (grant_check q g 12 ∷ crdt_checks q c w 12 0) (grants_give g c w) u
-          eu = granted_is q c w g n (grant_plane s.format c eg) given
+        module _ {paid : List ℕ} (sound : t ≡ Ok paid) {q : Receiver} (eq : q ≡ receiver_of s o) {g : Grant} (eg : g ≡ header_grant (format_of s.format) c)
+            {u : Result (List ℕ) Fault} (gives : u ≡ granted_tally q g c w) where
+          paid_is : (first_fault messages ≡ Accepted) × (paid ≡ paid_row s d c h)
+          paid_is = given_whole (first_fault messages) (paid_row s d c h) (sym begun_told ∙ sound)
 
           begun_pass : Pass messages
-          begun_pass = accepted_pass messages (sym begun_verdict ∙ sound)
+          begun_pass = accepted_pass messages paid_is.0
 
-          granted_verdict : u.verdict ≡ first_fault grants
-          granted_verdict =
-              eu.verdict ∙ (λ i. first_fault (grant_check (eq i) (eg i) 12 ∷ crdt_checks (eq i) c (ew i) 12 0))
-              ∙ ap (λ (l : List Check). first_fault (grant_check (receiver_of s o) (header_grant (format_of s.format) c) 12 ∷ l)) (crdt_checks_law s.format c n (receiver_of s o) 12 0 (carried (reader_of s d)) (omega arith))
-
-          granted_counts : u.verdict ≡ Accepted → u.counts ≡ given_row s d c h
+          granted_told : u ≡ given (first_fault grants) (given_row s d c h)
           unfolding granted begun granted_to
-          granted_counts e =
-              eu.counts e ∙ (λ i. row (λ p. granted_by p (eg i) + crdt_gives c (ew i) 12 0 p) 14 0)
-              ∙ row_equal (λ p. granted_by p (header_grant (format_of s.format) c) + crdt_gives c (msg_start (format_of s.format) c) 12 0 p) (λ p. granted_to p (granted s d c))
-              (λ p b. ap (λ (x : ℕ). granted_by p (header_grant (format_of s.format) c) + x) (crdt_gives_law s.format c n p 12 0 (carried (reader_of s d)) (omega arith)))
+          granted_told =
+              gives ∙ granted_is q c w g n (grant_plane s.format c eg)
+              ∙ (λ i. tally_of (grant_check (eq i) (eg i) 12 ∷ crdt_checks (eq i) c (ew i) 12 0) (grants_give (eg i) c (ew i)))
+              ∙ ap (λ (l : List Check). tally_of (grant_check (receiver_of s o) (header_grant (format_of s.format) c) 12 ∷ l) (grants_give (header_grant (format_of s.format) c) c (msg_start (format_of s.format) c)))
+              (crdt_checks_law s.format c n (receiver_of s o) 12 0 (carried (reader_of s d)) (omega arith))
+              ∙ ap (given (first_fault grants))
+              (row_equal (λ p. granted_by p (header_grant (format_of s.format) c) + crdt_gives c (msg_start (format_of s.format) c) 12 0 p) (λ p. granted_to p (granted s d c))
+              (λ p b. ap (λ (x : ℕ). granted_by p (header_grant (format_of s.format) c) + x) (crdt_gives_law s.format c n p 12 0 (carried (reader_of s d)) (omega arith))))
 
-          pub granted_refused : {k : Cause} {p : ℕ} → u.verdict ≡ Refused k p → {x : Step} → x ≡ record { ledger = s; answer = Refused k p } → x ≡ auditing s d c
+          pub granted_refused : {f : Fault} → u ≡ Err f → {x : Step} → x ≡ record { ledger = s; answer = Err f } → x ≡ auditing s d c
           granted_refused e ex =
-              audit_refused (entry_accepted ∙ skip state (messages ++ (grants ++ pools)) reads ∙ skip messages (grants ++ pools) begun_pass ∙ sym (stops_before grants pools granted_verdict e) ∙ e) ex
+              audit_refused (entry_accepted ∙ skip state (messages ++ (grants ++ pools)) reads ∙ skip messages (grants ++ pools) begun_pass
+              ∙ stops_before grants pools refl (given_faulty (first_fault grants) (given_row s d c h) (sym granted_told ∙ e))) ex
 
           -- then 15 and 16
-          pub audit_settles : u.verdict ≡ Accepted → {next : Carry} → next ≡ (next_reader (reader_of s d) c).carry → {x : Step} → x ≡ settling s d next t.counts u.counts → x ≡ auditing s d c
-          audit_settles e en ex =
-              ex ∙ (λ i. settling s d (en i) (begun_counts sound i) (granted_counts e i))
-              ∙ sym (settles s d c h v n reads begun_pass (accepted_pass grants (sym granted_verdict ∙ e)))
+          pub audit_settles : {given : List ℕ} → u ≡ Ok given → {next : Carry} → next ≡ (next_reader (reader_of s d) c).carry → {x : Step} → x ≡ settling s d next paid given → x ≡ auditing s d c
+          audit_settles {given} e en ex =
+              let whole = given_whole (first_fault grants) (given_row s d c h) (sym granted_told ∙ e) in
+              ex ∙ (λ i. settling s d (en i) (paid_is.1 i) (whole.1 i))
+              ∙ sym (settles s d c h v n reads begun_pass (accepted_pass grants whole.0))

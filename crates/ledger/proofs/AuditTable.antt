@@ -33,7 +33,7 @@ use Rattle.ledger.proofs.LackLaws.{lacks_message, lacks_crdt, crdt_lacks}
 use Rattle.cause.proofs.RankedLaws.{Ranked, chain}
 use Rattle.ledger.proofs.AuditFaults.{audit_first, audit_none}
 use Rattle.placement.proofs.ContainerTable.{cells_late, rows_late, container_numbers, Before, row_of, of_row}
-use Rattle.cause.specs.declared.Verdict.TheVariants.{Accepted, Refused}
+use Rattle.cause.specs.Checks.{Accepted, Refused}
 
 module _ (s : Ledger) (d : ℕ) (c : List ℕ) where
   abbrev fm : Format

@@ -6,7 +6,7 @@ use Rattle.ledger.specs.Audit.{ledger_ok, auditing}
 use Rattle.ledger.specs.Calls.{Entry, AllAccepted, behind}
 use Rattle.ledger.specs.declared.ledger.Ledger.{Ledger}
 use Rattle.ledger.proofs.AnswerLaws.{audit_keeps}
-use Rattle.cause.specs.declared.Verdict.TheVariants.{Accepted}
+use Rattle.cause.specs.Checks.{Accepted}
 
 abbrev next : Ledger → Entry → Ledger
 next s e = (auditing s e.direction e.container).ledger

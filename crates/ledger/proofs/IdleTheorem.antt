@@ -14,10 +14,9 @@ use Rattle.lists.specs.Parts.{zeros}
 use Rattle.lists.proofs.Tests.{and_left, and_right, and_both}
 use Rattle.lists.proofs.PickLaws.{pick_both}
 use Rattle.lists.proofs.ZeroLaws.{zeros_at, zeros_replicate}
-use Rattle.cause.specs.Checks.{Pass, first_fault}
+use Rattle.cause.specs.Checks.{Pass, first_fault, Accepted}
 use Rattle.cause.specs.declared.Cause.{Cause}
 use Rattle.cause.specs.declared.Cause.TheVariants.{MissingPool, MissingGrantPool}
-use Rattle.cause.specs.declared.Verdict.TheVariants.{Accepted}
 use Rattle.cause.proofs.CheckLaws.{pass_accepted, accepted_pass, pass_append}
 use Rattle.cause.proofs.EachLaws.{passes_each}
 use Rattle.container.specs.Layout.{Format, format_of, msg_start, bit}

@@ -20,8 +20,8 @@ use Rattle.ledger.specs.declared.ledger.Ledger.{Ledger}
 use Rattle.ledger.specs.declared.ledger.Step.{Step}
 use Rattle.ledger.specs.declared.entries.Run.{Run}
 use Rattle.ledger.proofs.AnswerLaws.{accepted_valid, refused_same}
-use Rattle.cause.specs.declared.Verdict.{Verdict}
-use Rattle.cause.specs.declared.Verdict.TheVariants.{Accepted, Refused}
+use Rattle.cause.specs.Checks.{Verdict, Accepted, Refused}
+use Rattle.std.specs.Prelude.{Ok, Err}
 
 -- ---- one entry
 
@@ -151,8 +151,8 @@ bounded_more k n at u l r low high b =
 module _ (l : List ℕ) where
   bounded_answer : (k : ℕ) (s : Ledger) (n at u : ℕ) (a : Verdict) (r : Run) → at ≤ length l → 257 ≤ u → u ≤ 261 → Bounded k (n + 1) (at + u) l r
       → Bounded (suc k) n at l (followed a s n at r)
-  bounded_answer k s n at u (Refused c p) r h low high b = bounded_stop (suc k) s n at l (Refused c p) h
-  bounded_answer k s n at u Accepted r h low high b = bounded_more k n at u l r low high b
+  bounded_answer k s n at u (Err fault) r h low high b = bounded_stop (suc k) s n at l (Refused fault.cause fault.place) h
+  bounded_answer k s n at u (Ok _) r h low high b = bounded_more k n at u l r low high b
 
   bounded_frame : (k : ℕ) (s : Ledger) (n at : ℕ) (f : Framed) → framing (drop at l) ≡ f → at ≤ length l
       → ((t : Ledger) (u : ℕ) → at + u ≤ length l → Bounded k (n + 1) (at + u) l (running k t (n + 1) (at + u) l))

@@ -10,8 +10,7 @@ use lib.Seq.{drop-drop}
 use Rattle.lists.specs.Pick.{pick}
 use Rattle.lists.proofs.Tests.{cases, never_both, not_true_false}
 use Rattle.cause.specs.declared.Cause.TheVariants.{InvalidState}
-use Rattle.record.specs.Number.{read_number}
-use Rattle.record.specs.declared.number.Number.TheVariants.{Value}
+use Rattle.record.specs.Number.{read_number, Value}
 use Rattle.frame.specs.Framing.{framing}
 use Rattle.frame.specs.declared.Framed.{Framed}
 use Rattle.frame.specs.declared.Framed.TheVariants.{Whole}
@@ -27,8 +26,9 @@ use Rattle.ledger.specs.declared.entries.Run.{Run}
 use Rattle.ledger.proofs.ValidLedgerLaws.{ledger_exactly}
 use Rattle.ledger.proofs.CallLaws.{accepted_front, accepted_back, accepted_more, behind_append}
 use Rattle.ledger.proofs.RunLaws.{step_at, Running, running_none, running_full, running_ends, running_refused, running_more}
-use Rattle.cause.specs.declared.Verdict.{Verdict}
-use Rattle.cause.specs.declared.Verdict.TheVariants.{Accepted, Refused}
+use Rattle.cause.specs.Checks.{Verdict, Accepted, Refused}
+use Rattle.record.proofs.NumberLaws.{value_same}
+use Rattle.std.specs.Prelude.{Ok, Err}
 
 -- where no whole entry is at the front, none is framed
 none_framed : (l : List ℕ) → NoEntry l → (v d u : ℕ) → framing l ≡ Whole v d u → ⊥
@@ -44,7 +44,7 @@ data Next (l : List ℕ) : Type 0 where
 
 next_by : (l : List ℕ) {f : Framed} → Front l f → Next l
 next_by l (broken e) = nothing (λ v u q. absurd (let z : ◌≡◌ {A = ℕ} 0 1 = cc in omega arith))
-next_by l (short x y e h) = nothing (λ v u q. let same : y ≡ u = cc in subst (λ (i : ℕ). length l < i + 256) same h)
+next_by l (short x y e h) = nothing (λ v u q. let same = (value_same _ _ _ _ (sym e ∙ q)).1 in subst (λ (i : ℕ). length l < i + 256) same h)
 next_by l (whole v u e h) = some v u e h
 
 module _ (s : Ledger) (limit : ℕ) (l : List ℕ) where
@@ -98,8 +98,8 @@ module _ (s : Ledger) (limit : ℕ) (l : List ℕ) where
   by_answer : (es : List Entry) (n v u : ℕ) → Entered s l es n → length es < limit → read_number (drop n l) ≡ Value v u → u + 256 ≤ length (drop n l)
       → (Entered s l (es ++ (entry n v u ∷ [])) (n + (u + 256)) → RunRule s limit l (run_over s limit l))
       → (a : Verdict) → (here es n v u).answer ≡ a → RunRule s limit l (run_over s limit l)
-  by_answer es n v u h few e g go (Refused k p) a = rule_is (refused es n v u k p h few e g a)
-  by_answer es n v u h few e g go Accepted a =
+  by_answer es n v u h few e g go (Err fault) a = rule_is (refused es n v u fault.cause fault.place h few e g a)
+  by_answer es n v u h few e g go (Ok _) a =
       go (record { valid = h.valid; front = next v u h.front e g; accepted = accepted_more s es (entry n v u) h.accepted a })
 
   by_next : (es : List Entry) (n : ℕ) → Entered s l es n → length es < limit

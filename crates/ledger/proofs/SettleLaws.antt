@@ -10,9 +10,7 @@ use lib.Seq.{get_or-take, get_or-drop}
 use lib.Dec.{eqb, leb}
 use borrow.Author.Tests.{eqb-true, eq-eqb, lt-ltb}
 use Rattle.lists.proofs.Tests.{cases}
-use Rattle.cause.specs.Checks.{Check, check, Pass, first_fault, or_else}
-use Rattle.cause.specs.declared.Verdict.{Verdict}
-use Rattle.cause.specs.declared.Verdict.TheVariants.{Accepted, Refused}
+use Rattle.cause.specs.Checks.{Check, check, Pass, first_fault, or_else, Verdict, Accepted}
 use Rattle.cause.specs.declared.Cause.TheVariants.{BegunOverGranted}
 use Rattle.cause.proofs.CheckLaws.{pass_accepted, first_append}
 use Rattle.container.specs.Layout.{format_of}
@@ -28,6 +26,7 @@ use Rattle.ledger.specs.CountingMirror.{credit_row_checks, capacity_row_checks, 
 use Rattle.ledger.specs.declared.ledger.Ledger.{Ledger}
 use Rattle.pools.proofs.RowLaws.{row_at, row_equal}
 use Rattle.ledger.proofs.AcceptedLaws.{AcceptedEntry, accepted_by, open_carried, open_next}
+use Rattle.std.specs.Prelude.{Ok, Err}
 
 -- entry p of row e of a flat table
 pub nested_entry : (l : List ℕ) (e p : ℕ) → e < 2 → p < 14 → entry_of (nested l) e p ≡ get_or l (14 * e + p) 0
@@ -129,5 +128,5 @@ module _ (s : Ledger) (d : ℕ) (c : List ℕ) (h : d < 2) where
       where
         by : (w : Verdict) → first_fault (audit_checks s d c) ≡ w → first_fault (count_checks s d paid_row given_row) ≡ first_fault (audit_checks s d c)
             → auditing s d c ≡ settling s d (next_reader (reader_of s d) c).carry paid_row given_row
-        by Accepted e q = rw (q, e) (ap (λ (l : Ledger). record { ledger = l; answer = Accepted }) (tables (accepted_by s d c e)))
-        by (Refused k p) e q = rw (q, e)
+        by (Ok _) e q = rw (q, e) (ap (λ (l : Ledger). record { ledger = l; answer = Accepted }) (tables (accepted_by s d c e)))
+        by (Err fault) e q = rw (q, e)

@@ -1,8 +1,8 @@
 -- The audit (document 01, "Pools and the audit" and "Causes and places"): the ledger, its validity, and the audit of an entry.
-use Rattle.std.specs.Prelude.{ℕ, zero, suc, ◌+◌, ◌-◌, ◌*◌, Bool, true, ◌&&◌, List, [], ◌∷◌, ◌++◌, length, get_or, replicate, eqb, ltb, leb}
+use Rattle.std.specs.Prelude.{ℕ, zero, suc, ◌+◌, ◌-◌, ◌*◌, Bool, true, ◌&&◌, List, [], ◌∷◌, ◌++◌, length, get_or, replicate, eqb, ltb, leb, Result}
 use Rattle.lists.specs.Pick.{pick}
-use Rattle.cause.specs.Checks.{Check, check, first_fault, when_accepted}
-use Rattle.cause.specs.declared.Verdict.TheVariants.{Accepted, Refused}
+use Rattle.cause.specs.Checks.{Check, check, first_fault, when_accepted, given, Accepted, Refused}
+use Rattle.cause.specs.declared.Fault.{Fault}
 use Rattle.cause.specs.declared.Cause.TheVariants.{InvalidState, ContainerLength, BegunOverGranted, GrantedOverCapacity}
 use Rattle.container.specs.Layout.{format_of, container_size}
 use Rattle.container.specs.declared.grant.Grant.{Grant}
@@ -15,9 +15,7 @@ use Rattle.pools.specs.declared.receiver.Receiver.{Receiver}
 use Rattle.ledger.specs.Entries.{starts_in, ends_in, grants_of, checks_then}
 use Rattle.ledger.specs.declared.ledger.Ledger.{Ledger}
 use Rattle.ledger.specs.declared.ledger.Step.{Step}
-use Rattle.ledger.specs.declared.ledger.Created.{Created}
-use Rattle.ledger.specs.declared.ledger.Reported.{Reported}
-use Rattle.ledger.specs.declared.ledger.Reported.TheVariants as report
+use Rattle.ledger.specs.declared.ledger.Report.{Report}
 
 -- the receiver of direction d, and the reader of its containers
 abbrev pub receiver_of : Ledger → ℕ → Receiver
@@ -131,12 +129,13 @@ fresh_ledger f a b = record {
 abbrev pub configured : ℕ → Receiver → Receiver → Bool
 configured f a b = ltb f 2 && (receiver_ok a && receiver_ok b)
 
--- a new ledger; a configuration that is none is 19, beside a ledger that every step refuses
-abbrev pub new_ledger : ℕ → Receiver → Receiver → Created
-new_ledger f a b = record { ledger = fresh_ledger f a b; verdict = pick (configured f a b) Accepted (Refused InvalidState 0) }
+-- a new ledger; a configuration that is none is 19
+abbrev pub new_ledger : ℕ → Receiver → Receiver → Result Ledger Fault
+new_ledger f a b = given (pick (configured f a b) Accepted (Refused InvalidState 0)) (fresh_ledger f a b)
 
 -- the report of direction d and pool p: granted minus begun, and begun minus finished; a direction or pool that is none, and a ledger that
 -- is not valid, are 19
-abbrev pub reported : Ledger → ℕ → ℕ → Reported
+abbrev pub reported : Ledger → ℕ → ℕ → Result Report Fault
 reported s d p =
-    pick (ltb d 2 && (ltb p pool_count && ledger_ok s)) (report.Accepted (record { 0 = held_of s d p }) (record { 0 = open_of s d p })) (report.Refused InvalidState 0)
+    given (pick (ltb d 2 && (ltb p pool_count && ledger_ok s)) Accepted (Refused InvalidState 0))
+    (record { held = record { 0 = held_of s d p }; opened = record { 0 = open_of s d p } })

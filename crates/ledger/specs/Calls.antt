@@ -1,10 +1,9 @@
 -- Entries as a list of calls of the audit, and at the front of bytes.
 use Rattle.std.specs.Prelude.{ℕ, ◌+◌, ◌%◌, ◌≤◌, ◌<◌, ◌≡◌, List, [], ◌∷◌, ◌++◌, length, take, drop}
-use Rattle.record.specs.Number.{read_number}
-use Rattle.record.specs.declared.number.Number.TheVariants.{Value}
+use Rattle.record.specs.Number.{read_number, Value}
 use Rattle.ledger.specs.Audit.{auditing}
 use Rattle.ledger.specs.declared.ledger.Ledger.{Ledger}
-use Rattle.cause.specs.declared.Verdict.TheVariants.{Accepted}
+use Rattle.cause.specs.Checks.{Accepted}
 
 -- what an entry hands to the audit
 pub record Entry : Type 0 where

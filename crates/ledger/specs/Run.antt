@@ -1,5 +1,5 @@
 -- Entries audited one after the other, as a log frames them, up to the first that is refused.
-use Rattle.std.specs.Prelude.{ℕ, zero, suc, ◌+◌, List, drop}
+use Rattle.std.specs.Prelude.{ℕ, zero, suc, ◌+◌, List, drop, Ok, Err}
 use Rattle.lists.specs.Pick.{pick}
 use Rattle.lists.specs.Parts.{part}
 use Rattle.cause.specs.declared.Cause.TheVariants.{InvalidState}
@@ -9,9 +9,8 @@ use Rattle.frame.specs.declared.Framed.TheVariants.{Broken, Short, Whole}
 use Rattle.ledger.specs.Audit.{ledger_ok, auditing}
 use Rattle.ledger.specs.declared.ledger.Ledger.{Ledger}
 use Rattle.ledger.specs.declared.entries.Run.{Run}
-use Rattle.cause.specs.declared.Verdict.{Verdict}
-use Rattle.cause.specs.declared.Verdict.TheVariants.{Accepted, Refused}
 use Rattle.container.specs.Layout.{container_size}
+use Rattle.cause.specs.Checks.{Verdict, Accepted, Refused}
 
 -- a run that stops behind n accepted entries and `at` bytes
 abbrev pub halted : Ledger → ℕ → ℕ → Verdict → Run
@@ -25,8 +24,8 @@ when_whole (Whole v d u) stop go = go d u
 
 -- by the answer on the next entry: a refusal stops the run before it
 abbrev pub followed : Verdict → Ledger → ℕ → ℕ → Run → Run
-followed (Refused k p) s n at go = halted s n at (Refused k p)
-followed Accepted s n at go = go
+followed (Err fault) s n at go = halted s n at (Refused fault.cause fault.place)
+followed (Ok _) s n at go = go
 
 -- at most k entries from byte `at` of l on, behind n accepted ones
 unfoldable pub running : ℕ → Ledger → ℕ → ℕ → List ℕ → Run

@@ -2,15 +2,13 @@
 use Rattle.std.specs.Prelude.{ℕ, ◌+◌, ◌≤◌, ◌<◌, ◌≡◌, List, [], ◌⊎◌, length, drop}
 use Rattle.cause.specs.declared.Cause.{Cause}
 use Rattle.cause.specs.declared.Cause.TheVariants.{InvalidState}
-use Rattle.record.specs.Number.{read_number}
-use Rattle.record.specs.declared.number.Number.TheVariants.{Value}
+use Rattle.record.specs.Number.{read_number, Value}
 use Rattle.ledger.specs.Audit.{auditing}
 use Rattle.ledger.specs.Calls.{Entry, AllAccepted, behind, entry_of, Enters, NoEntry}
 use Rattle.ledger.specs.ValidLedger.{ValidLedger}
 use Rattle.ledger.specs.declared.ledger.Ledger.{Ledger}
 use Rattle.ledger.specs.declared.entries.Run.{Run}
-use Rattle.cause.specs.declared.Verdict.{Verdict}
-use Rattle.cause.specs.declared.Verdict.TheVariants.{Accepted, Refused}
+use Rattle.cause.specs.Checks.{Verdict, Accepted, Refused}
 
 -- the entries es at the front of l, which end at byte n, are accepted one after the other from the valid ledger s
 pub record Entered (s : Ledger) (l : List ℕ) (es : List Entry) (n : ℕ) : Type 0 where

@@ -12,14 +12,12 @@ pub(crate) fn judge_begun(held: [[u32; ROW]; 2], direction: usize, begun: [u32; 
     requires { direction < 2 }
     ensures { result ≡ first_fault (credit_row_checks (get_or held direction []) begun 14 0) }
 {
-    let mut p: usize = 0;
-    while p < ROW {
+    for p in 0..ROW {
         if !Credits(held[direction][p]).cover(Credits(begun[p])) {
-            return Verdict::Refused(Cause::BegunOverGranted, p as u64);
+            return Err(Cause::BegunOverGranted.at(p as u64));
         }
-        p += 1;
     }
-    Verdict::Accepted
+    Ok(())
 }
 
 // The lowest pool in which held, granted and open together are over the capacity.
@@ -33,16 +31,14 @@ pub(crate) fn judge_granted(
     requires { direction < 2 }
     ensures { result ≡ first_fault (capacity_row_checks (get_or held direction []) (get_or opened direction []) granted capacities 14 0) }
 {
-    let mut p: usize = 0;
-    while p < ROW {
+    for p in 0..ROW {
         let credits = Credits(held[direction][p]);
         let messages = Slots(opened[direction][p]);
         if !fit_together(credits, Credits(granted[p]), messages, Slots(capacities[p])) {
-            return Verdict::Refused(Cause::GrantedOverCapacity, p as u64);
+            return Err(Cause::GrantedOverCapacity.at(p as u64));
         }
-        p += 1;
     }
-    Verdict::Accepted
+    Ok(())
 }
 
 // Whether open messages are what the carry pays and held plus open is within capacity, in every pool.
@@ -56,8 +52,7 @@ pub(crate) fn keeps_counts(
     requires { direction < 2 }
     ensures { result ≡ rows_ok (get_or held direction []) (get_or opened direction []) paid capacities 14 0 }
 {
-    let mut p: usize = 0;
-    while p < ROW {
+    for p in 0..ROW {
         let messages = Slots(opened[direction][p]);
         if !messages.equal(Slots(paid[p])) {
             return false;
@@ -66,7 +61,6 @@ pub(crate) fn keeps_counts(
         if !fit_together(credits, Credits(0), messages, Slots(capacities[p])) {
             return false;
         }
-        p += 1;
     }
     true
 }
@@ -85,11 +79,9 @@ pub(crate) fn settle_held(
 {
     let mut next = held;
     let other = 1 - direction;
-    let mut p: usize = 0;
-    while p < ROW {
+    for p in 0..ROW {
         next[direction][p] = Credits(held[direction][p]).spend(Credits(begun[p])).0;
         next[other][p] = Credits(held[other][p]).raise(Credits(granted[p])).0;
-        p += 1;
     }
     next
 }

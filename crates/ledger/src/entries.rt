@@ -38,14 +38,13 @@ fn audit_framed(ledger: Ledger, bytes: &[u8], limit: u32) -> Run
     let mut count: u32 = 0;
     let mut at: usize = 0;
     while count < limit {
-        let framed = frame_entry(&bytes[at..]);
         let Framed::Whole {
             number: _,
             direction,
             start,
-        } = framed
+        } = frame_entry(&bytes[at..])
         else {
-            return stop_run(state, count, at, Verdict::Accepted);
+            return stop_run(state, count, at, Ok(()));
         };
         let begin = at + start;
         let end = begin + CONTAINER;
@@ -53,14 +52,14 @@ fn audit_framed(ledger: Ledger, bytes: &[u8], limit: u32) -> Run
             let step = state.audit_contents(direction, &bytes[begin..end]);
             let answer = step.answer;
             state = step.ledger;
-            if let Verdict::Refused(_, _) = answer {
-                return stop_run(state, count, at, answer);
+            if let Err(fault) = answer {
+                return stop_run(state, count, at, Err(fault));
             }
         }
         count += 1;
         at = end;
     }
-    stop_run(state, count, at, Verdict::Accepted)
+    stop_run(state, count, at, Ok(()))
 }
 
 impl Ledger {
@@ -72,6 +71,6 @@ impl Ledger {
         if self.is_valid() {
             return audit_framed(self, bytes, limit);
         }
-        stop_run(self, 0, 0, Verdict::Refused(Cause::InvalidState, 0))
+        stop_run(self, 0, 0, Err(Cause::InvalidState.at(0)))
     }
 }

@@ -1,17 +1,16 @@
 // The ledger: a state by value, and the audit of an entry.
-ghost use Rattle.std.specs.Prelude.{◌≡◌, true, ◌&&◌, ◌≤◌, ◌<◌, length, ltb};
-ghost use Rattle.cause.specs.Checks.{first_fault};
-ghost use Rattle.cause.specs.declared.Verdict.TheVariants.{Accepted};
+ghost use Rattle.std.specs.Prelude.{◌≡◌, true, ◌&&◌, ◌≤◌, ◌<◌, length, ltb, Err};
+ghost use Rattle.cause.specs.Checks.{first_fault, Accepted};
 ghost use Rattle.container.specs.Layout.{format_of, msg_start};
 ghost use Rattle.container.specs.Grants.{header_grant};
 ghost use Rattle.reader.specs.Reading.{judge_checks, next_reader, carried};
 ghost use Rattle.pools.specs.Rows.{flattened};
-ghost use Rattle.ledger.specs.Audit.{receiver_of, reader_of, direction_ok, ledger_ok, configured, new_ledger, unchanged, auditing, reported};
+ghost use Rattle.ledger.specs.Audit.{receiver_of, reader_of, direction_ok, ledger_ok, configured, fresh_ledger, new_ledger, unchanged, auditing, reported};
 ghost use Rattle.ledger.specs.CountingMirror.{pooled, idle_entry, settling, entered};
 
 use crate::counts::{judge_begun, judge_granted, keeps_counts, settle_held, settle_opened};
-use cause::{Cause, Verdict};
-use container::{CONTAINER, Grant, is_idle};
+use cause::{Cause, Fault, Verdict};
+use container::{CONTAINER, FORMATS, Grant, is_idle};
 use pools::{
     Credits, POOLS, ROW, Receiver, Slots, TABLE, count_carry, flatten, nest, tally_begun,
     tally_granted,
@@ -39,35 +38,18 @@ pub struct Step {
     pub answer: Verdict,
 }
 
-// A new ledger, and whether its format and receivers are valid.
-#[derive(Clone, Copy)]
-pub struct Created {
-    pub ledger: Ledger,
-    pub verdict: Verdict,
-}
-
-// The answer of a report: the credits held and the slots of open messages, of one direction and pool.
-#[derive(Clone, Copy)]
-pub enum Reported {
-    Accepted { held: Credits, opened: Slots },
-    Refused { cause: Cause, place: u64 },
-}
-
-// The report of a direction or pool that is none, or of a ledger that is not valid.
-fn refuse_report() -> Reported
-    ensures { result ≡ Reported.Refused Cause.InvalidState 0 }
-{
-    Reported::Refused {
-        cause: Cause::InvalidState,
-        place: 0,
-    }
+// A report: the credits held and the slots of open messages, of one direction and pool.
+#[derive(Clone, Copy, Debug, PartialEq, Eq)]
+pub struct Report {
+    pub held: Credits,
+    pub opened: Slots,
 }
 
 // Whether a format and receivers are valid.
 fn is_configured(format: u32, receiver0: Receiver, receiver1: Receiver) -> bool
     ensures { result ≡ configured format receiver0 receiver1 }
 {
-    if 2 <= format {
+    if FORMATS <= format {
         return false;
     }
     if receiver0.is_valid() {
@@ -77,12 +59,12 @@ fn is_configured(format: u32, receiver0: Receiver, receiver1: Receiver) -> bool
 }
 
 impl Ledger {
-    // A ledger with nothing carried, held or open.
-    pub fn fresh(format: u32, receiver0: Receiver, receiver1: Receiver) -> Created
-        ensures { result ≡ new_ledger format receiver0 receiver1 }
+    // A ledger with nothing carried, held or open; every entry refuses one of a number that is no format or a receiver that is none.
+    pub fn empty(format: u32, receiver0: Receiver, receiver1: Receiver) -> Ledger
+        ensures { result ≡ fresh_ledger format receiver0 receiver1 }
     {
         let none = Carry::none();
-        let ledger = Ledger {
+        Ledger {
             format: format,
             receiver0: receiver0,
             receiver1: receiver1,
@@ -90,17 +72,17 @@ impl Ledger {
             carry1: none,
             held: [0u32; TABLE],
             opened: [0u32; TABLE],
-        };
-        if is_configured(format, receiver0, receiver1) {
-            return Created {
-                ledger: ledger,
-                verdict: Verdict::Accepted,
-            };
         }
-        Created {
-            ledger: ledger,
-            verdict: Verdict::Refused(Cause::InvalidState, 0),
+    }
+
+    // A ledger of a format and two receivers, with nothing carried, held or open.
+    pub fn fresh(format: u32, receiver0: Receiver, receiver1: Receiver) -> Result<Ledger, Fault>
+        ensures { result ≡ new_ledger format receiver0 receiver1 }
+    {
+        if !is_configured(format, receiver0, receiver1) {
+            return Err(Cause::InvalidState.at(0));
         }
+        Ok(Ledger::empty(format, receiver0, receiver1))
     }
 
     // The receiver of a direction.
@@ -202,12 +184,12 @@ impl Ledger {
     }
 
     // A refused entry.
-    fn refuse(self, cause: Cause, place: u64) -> Step
-        ensures { result ≡ record { ledger = self; answer = Verdict.Refused cause place } }
+    fn refuse(self, fault: Fault) -> Step
+        ensures { result ≡ record { ledger = self; answer = Err fault } }
     {
         Step {
             ledger: self,
-            answer: Verdict::Refused(cause, place),
+            answer: Err(fault),
         }
     }
 
@@ -259,18 +241,16 @@ impl Ledger {
     {
         let credits = self.held;
         let held = nest(credits);
-        let short = judge_begun(held, direction, begun);
-        if let Verdict::Refused(cause, place) = short {
-            return self.refuse(cause, place);
+        if let Err(fault) = judge_begun(held, direction, begun) {
+            return self.refuse(fault);
         }
         let messages = self.opened;
         let opened = nest(messages);
         let other = 1 - direction;
         let receiver = self.choose_receiver(other);
         let capacities = receiver.capacities;
-        let over = judge_granted(held, opened, other, granted, capacities);
-        if let Verdict::Refused(cause, place) = over {
-            return self.refuse(cause, place);
+        if let Err(fault) = judge_granted(held, opened, other, granted, capacities) {
+            return self.refuse(fault);
         }
         let bytes = next.bytes;
         let len = next.len;
@@ -279,7 +259,7 @@ impl Ledger {
         let opened_after = settle_opened(opened, direction, paid);
         Step {
             ledger: self.enter(direction, next, held_after, opened_after),
-            answer: Verdict::Accepted,
+            answer: Ok(()),
         }
     }
 
@@ -298,24 +278,16 @@ impl Ledger {
         requires grant_value { (grant ≡ header_grant (format_of self.format) container.now) × (msgstart ≡ msg_start (format_of self.format) container.now) }
         ensures { result ≡ auditing self direction container.now }
     {
-        let begun = tally_begun(self.choose_receiver(direction), msgstart, container);
-        let first = begun.verdict;
-        if let Verdict::Refused(cause, place) = first {
-            return self.refuse(cause, place);
-        }
-        let granted = tally_granted(
-            self.choose_receiver(1 - direction),
-            grant,
-            msgstart,
-            container,
-        );
-        let second = granted.verdict;
-        if let Verdict::Refused(cause, place) = second {
-            return self.refuse(cause, place);
-        }
-        let paid = begun.counts;
-        let given = granted.counts;
-        self.settle(direction, next, paid, given)
+        let begun = match tally_begun(self.choose_receiver(direction), msgstart, container) {
+            Ok(counts) => counts,
+            Err(fault) => return self.refuse(fault),
+        };
+        let other = self.choose_receiver(1 - direction);
+        let granted = match tally_granted(other, grant, msgstart, container) {
+            Ok(counts) => counts,
+            Err(fault) => return self.refuse(fault),
+        };
+        self.settle(direction, next, begun, granted)
     }
 
     // An entry of 256 bytes by what it holds, from a valid ledger.
@@ -326,7 +298,7 @@ impl Ledger {
         let judged = self.choose_reader(direction).judge(container);
         let answer = judged.answer;
         match answer {
-            JudgeAnswer::Refused { cause, place } => self.refuse(cause, place),
+            JudgeAnswer::Refused { cause, place } => self.refuse(cause.at(place)),
             JudgeAnswer::Accepted { grant, msgstart } => {
                 let next = judged.reader.carry;
                 self.audit_read(direction, container, next, grant, msgstart)
@@ -342,7 +314,7 @@ impl Ledger {
         if self.is_entry_idle(direction, container) {
             return Step {
                 ledger: self,
-                answer: Verdict::Accepted,
+                answer: Ok(()),
             };
         }
         self.audit_contents(direction, container)
@@ -363,31 +335,38 @@ impl Ledger {
         ensures { result ≡ auditing self direction container.now }
     {
         if !self.admits(direction) {
-            return self.refuse(Cause::InvalidState, 0);
+            return self.refuse(Cause::InvalidState.at(0));
         }
         if container.len() != CONTAINER {
-            return self.refuse(Cause::ContainerLength, 0);
+            return self.refuse(Cause::ContainerLength.at(0));
         }
         self.audit_valid(direction as usize, container)
     }
 
-    // The credits held and the messages open of a direction and pool.
-    pub fn report(self, direction: u32, pool: u32) -> Reported
+    // The credits held and the slots of open messages, of a direction and pool.
+    pub fn report(self, direction: u32, pool: u32) -> Result<Report, Fault>
         ensures { result ≡ reported self direction pool }
     {
+        if !self.tells(direction, pool) {
+            return Err(Cause::InvalidState.at(0));
+        }
+        let i = (POOLS * direction + pool) as usize;
+        Ok(Report {
+            held: Credits(self.held[i]),
+            opened: Slots(self.opened[i]),
+        })
+    }
+
+    // Whether direction and pool are there and the ledger is valid.
+    fn tells(self, direction: u32, pool: u32) -> bool
+        ensures { result ≡ (ltb direction 2 && (ltb pool 14 && ledger_ok self)) }
+    {
         if 2 <= direction {
-            return refuse_report();
+            return false;
         }
         if POOLS <= pool {
-            return refuse_report();
+            return false;
         }
-        if self.is_valid() {
-            let i = (POOLS * direction + pool) as usize;
-            return Reported::Accepted {
-                held: Credits(self.held[i]),
-                opened: Slots(self.opened[i]),
-            };
-        }
-        refuse_report()
+        self.is_valid()
     }
 }

@@ -6,4 +6,4 @@ mod entries;
 mod ledger;
 
 pub use entries::Run;
-pub use ledger::{Created, Ledger, Reported, Step};
+pub use ledger::{Ledger, Report, Step};

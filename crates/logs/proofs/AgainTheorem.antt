@@ -11,12 +11,10 @@ use borrow.Author.Tests.{leb-true, leb-false}
 use Rattle.lists.specs.Parts.{join_all}
 use Rattle.lists.proofs.Tests.{cases}
 use Rattle.logs.specs.Log.{ConfigurationAnswer, misconfigures, configures, configuration_at, Next, over, onward}
-use Rattle.logs.specs.Stream.{max_entries, ready, stopped_at, stepped, read_from, started, start_by, beginning, Running, consuming, verdict_from}
+use Rattle.logs.specs.Stream.{max_entries, ready, stopped_at, stepped, read_from, started, start_by, beginning, Running, consuming, verdict_from, Outcome, Over}
 use Rattle.logs.specs.Cutting.{told, run}
 use Rattle.ledger.specs.declared.ledger.Ledger.{Ledger}
 use Rattle.logs.specs.declared.log.LogVerdict.{LogVerdict}
-use Rattle.logs.specs.declared.log.Outcome.{Outcome}
-use Rattle.logs.specs.declared.log.Outcome.TheVariants.{Over}
 use Rattle.logs.specs.declared.log.LogReader.{LogReader}
 use Rattle.logs.specs.declared.log.Consumed.{Consumed}
 use Rattle.logs.proofs.LogSteps.{next_at, read_stop, read_over, read_on_steps, when_ready}

@@ -9,16 +9,14 @@ use lib.Seq.{drop-drop, drop-append-le}
 use Rattle.lists.specs.Pick.{pick}
 use Rattle.lists.proofs.PickLaws.{pick_both}
 use Rattle.lists.proofs.PartLaws.{rest_is}
-use Rattle.cause.specs.declared.Cause.{Cause}
 use Rattle.cause.specs.declared.Cause.TheVariants.{BrokenRecord, InvalidState}
-use Rattle.cause.specs.declared.Verdict.{Verdict}
-use Rattle.cause.specs.declared.Verdict.TheVariants.{Accepted, Refused}
-use Rattle.record.specs.Number.{read_number}
+use Rattle.record.specs.Number.{read_number, Broken, Value}
 use Rattle.record.specs.declared.number.Number.{Number}
-use Rattle.record.specs.declared.number.Number.TheVariants.{Broken, Value}
 use Rattle.logs.specs.Log.{ConfigurationAnswer, misconfigures, configures, configuration_from, configuration_at, configuration_of, number_then, value_ok}
 use Rattle.logs.specs.declared.configuration.Configuration.{Configuration}
+use Rattle.cause.specs.declared.Fault.{Fault}
 use Rattle.record.proofs.NumberTakes.{Takes, takes_number, number_append}
+use Rattle.std.specs.Prelude.{Option, Some, None, Result, Ok, Err}
 
 pub or_false : (b : Bool) → (b || false) ≡ b
 or_false true = refl
@@ -34,14 +32,14 @@ pub configuration_wrong : (k : ℕ) (ns : List ℕ) (i at : ℕ) (l : List ℕ) 
     → configuration_from (suc k) ns i at l ≡ misconfigures InvalidState 0
 unfolding configuration_from
 configuration_wrong k ns i at l v u e f =
-    ap (λ (r : Number). number_then r ns i at (λ v u. configuration_from k (set ns i v) (i + 1) (at + u) (drop u l))) e
+    ap (λ (r : Option Number). number_then r ns i at (λ v u. configuration_from k (set ns i v) (i + 1) (at + u) (drop u l))) e
     ∙ ap (λ t. pick t (configuration_from k (set ns i v) (i + 1) (at + u) (drop u l)) (misconfigures InvalidState 0)) f
 
 pub configuration_on : (k : ℕ) (ns : List ℕ) (i at : ℕ) (l : List ℕ) (v u : ℕ) → read_number l ≡ Value v u → value_ok ns i v ≡ true
     → configuration_from (suc k) ns i at l ≡ configuration_from k (set ns i v) (i + 1) (at + u) (drop u l)
 unfolding configuration_from
 configuration_on k ns i at l v u e f =
-    ap (λ (r : Number). number_then r ns i at (λ v u. configuration_from k (set ns i v) (i + 1) (at + u) (drop u l))) e
+    ap (λ (r : Option Number). number_then r ns i at (λ v u. configuration_from k (set ns i v) (i + 1) (at + u) (drop u l))) e
     ∙ ap (λ t. pick t (configuration_from k (set ns i v) (i + 1) (at + u) (drop u l)) (misconfigures InvalidState 0)) f
 
 pub configuration_done : (ns : List ℕ) (i at : ℕ) (l : List ℕ) → configuration_from zero ns i at l ≡ configures ns at
@@ -59,7 +57,7 @@ pub record Setting-at (b : List ℕ) (ns : List ℕ) (at i : ℕ) : Type 0 where
 pub configuration_begins : (b : List ℕ) → Setting-at b (replicate 33 0) 0 0
 configuration_begins b = record { low = omega arith; within = omega arith; same = refl }
 
-module _ (b : List ℕ) (ns : List ℕ) (at i : ℕ) (h : Setting-at b ns at i) (more : i < 33) (r : Number)
+module _ (b : List ℕ) (ns : List ℕ) (at i : ℕ) (h : Setting-at b ns at i) (more : i < 33) (r : Option Number)
     (read : r ≡ read_number (take (length b - at) (drop at b))) where
   number_here : read_number (drop at b) ≡ r
   number_here = sym (read ∙ ap (λ (l : List ℕ). read_number l) (rest_is b at))
@@ -99,23 +97,34 @@ configuration_ends b ns at i h full =
 
 -- ---- what the code's answer says of a configuration
 
-wrong_by : (t : ConfigurationAnswer) (c : Cause) (p : ℕ) → (configuration_of t).verdict ≡ Refused c p → t ≡ misconfigures c p
-wrong_by (misconfigures x y) c p q = cc
-wrong_by (configures ns n) c p q = absurd (let z : ◌≡◌ {A = ℕ} 0 1 = cc in omega arith)
+fault_in : Fault → Result Configuration Fault → Fault
+fault_in other (Ok _) = other
+fault_in other (Err fault) = fault
 
-good_by : (t : ConfigurationAnswer) → (configuration_of t).verdict ≡ Accepted → t ≡ configures (configuration_of t).numbers (configuration_of t).used
-good_by (misconfigures x y) q = absurd (let z : ◌≡◌ {A = ℕ} 0 1 = cc in omega arith)
-good_by (configures ns n) q = refl
+numbers_in : Configuration → Result Configuration Fault → Configuration
+numbers_in other (Ok configuration) = configuration
+numbers_in other (Err _) = other
 
-module _ (b : List ℕ) (r : Configuration) (e : r ≡ configuration_of (configuration_at b)) where
-  told_verdict : (v : Verdict) → r.verdict ≡ v → (configuration_of (configuration_at b)).verdict ≡ v
-  told_verdict v q = sym (ap (λ (x : Configuration). x.verdict) e) ∙ q
+wrong_by : (t : ConfigurationAnswer) (f : Fault) → configuration_of t ≡ Err f → t ≡ misconfigures f.cause f.place
+unfolding fault_in
+wrong_by (misconfigures x y) f q =
+    let same : record { cause = x; place = y } ≡ f = ap (fault_in f) q in
+    ap (λ (g : Fault). misconfigures g.cause g.place) same
+wrong_by (configures ns n) f q = absurd (let z : ◌≡◌ {A = ℕ} 0 1 = cc in omega arith)
 
-  pub told_wrong : (c : Cause) (p : ℕ) → r.verdict ≡ Refused c p → configuration_at b ≡ misconfigures c p
-  told_wrong c p q = wrong_by (configuration_at b) c p (told_verdict (Refused c p) q)
+good_by : (t : ConfigurationAnswer) (c : Configuration) → configuration_of t ≡ Ok c → t ≡ configures c.numbers c.used
+unfolding numbers_in
+good_by (misconfigures x y) c q = absurd (let z : ◌≡◌ {A = ℕ} 0 1 = cc in omega arith)
+good_by (configures ns n) c q =
+    let same : record { numbers = ns; used = n } ≡ c = ap (numbers_in c) q in
+    ap (λ (x : Configuration). configures x.numbers x.used) same
 
-  pub told_good : r.verdict ≡ Accepted → configuration_at b ≡ configures r.numbers r.used
-  told_good q = good_by (configuration_at b) (told_verdict Accepted q) ∙ ap (λ (x : Configuration). configures x.numbers x.used) (sym e)
+module _ (b : List ℕ) (r : Result Configuration Fault) (e : r ≡ configuration_of (configuration_at b)) where
+  pub told_wrong : (f : Fault) → r ≡ Err f → configuration_at b ≡ misconfigures f.cause f.place
+  told_wrong f q = wrong_by (configuration_at b) f (sym e ∙ q)
+
+  pub told_good : (c : Configuration) → r ≡ Ok c → configuration_at b ≡ configures c.numbers c.used
+  told_good c q = good_by (configuration_at b) c (sym e ∙ q)
 
 -- ---- how far it goes
 
@@ -128,12 +137,12 @@ holds_more : (t : ConfigurationAnswer) (at u k m n : ℕ) → 1 ≤ u → u ≤ 
 holds_more (misconfigures c p) at u k m n x y z h = tt
 holds_more (configures ns j) at u k m n x y z h = (omega (arith, h.0), (omega (arith, h.1.0), omega (arith, h.1.1)))
 
-holds_number : (r : Number) (ns : List ℕ) (i at k m : ℕ) (f : ℕ → ℕ → ConfigurationAnswer) → Takes r 5 m
+holds_number : (r : Option Number) (ns : List ℕ) (i at k m : ℕ) (f : ℕ → ℕ → ConfigurationAnswer) → Takes r 5 m
     → ((v u : ℕ) → u ≤ m → Holds (f v u) (at + u) k (m - u)) → Holds (number_then r ns i at f) at (suc k) m
-holds_number Broken ns i at k m f t h = tt
-holds_number (Value v u) ns i at k m f t h =
-    pick_both (λ (x : ConfigurationAnswer). Holds x at (suc k) m) (value_ok ns i v)
-    (holds_more (f v u) at u k (m - u) m t.0 t.1.0 (omega (arith, t.1.1)) (h v u t.1.1)) tt
+holds_number None ns i at k m f t h = tt
+holds_number (Some number) ns i at k m f t h =
+    pick_both (λ (x : ConfigurationAnswer). Holds x at (suc k) m) (value_ok ns i number.value)
+    (holds_more (f number.value number.used) at number.used k (m - number.used) m t.0 t.1.0 (omega (arith, t.1.1)) (h number.value number.used t.1.1)) tt
 
 pub configuration_holds : (k : ℕ) (ns : List ℕ) (i at : ℕ) (l : List ℕ) → Holds (configuration_from k ns i at l) at k (length l)
 unfolding configuration_from
@@ -143,18 +152,18 @@ configuration_holds (suc k) ns i at l =
     (λ v u fit. subst (λ (n : ℕ). Holds (configuration_from k (set ns i v) (i + 1) (at + u) (drop u l)) (at + u) k n) (length-drop u l)
     (configuration_holds k (set ns i v) (i + 1) (at + u) (drop u l)))
 
-number_same : (r : Number) (ns : List ℕ) (i at m : ℕ) (f g : ℕ → ℕ → ConfigurationAnswer) → Takes r 5 m
+number_same : (r : Option Number) (ns : List ℕ) (i at m : ℕ) (f g : ℕ → ℕ → ConfigurationAnswer) → Takes r 5 m
     → ((v u : ℕ) → u ≤ 5 → u ≤ m → f v u ≡ g v u) → number_then r ns i at f ≡ number_then r ns i at g
-number_same Broken ns i at m f g t h = refl
-number_same (Value v u) ns i at m f g t h =
-    ap (λ (x : ConfigurationAnswer). pick (value_ok ns i v) x (misconfigures InvalidState 0)) (h v u t.1.0 t.1.1)
+number_same None ns i at m f g t h = refl
+number_same (Some number) ns i at m f g t h =
+    ap (λ (x : ConfigurationAnswer). pick (value_ok ns i number.value) x (misconfigures InvalidState 0)) (h number.value number.used t.1.0 t.1.1)
 
 -- no more than five bytes a number are looked at
 pub configuration_append : (k : ℕ) (ns : List ℕ) (i at : ℕ) (l m : List ℕ) → 5 * k ≤ length l → configuration_from k ns i at (l ++ m) ≡ configuration_from k ns i at l
 unfolding configuration_from
 configuration_append zero ns i at l m h = refl
 configuration_append (suc k) ns i at l m h =
-    ap (λ (r : Number). number_then r ns i at (λ v u. configuration_from k (set ns i v) (i + 1) (at + u) (drop u (l ++ m)))) (number_append l m (omega arith))
+    ap (λ (r : Option Number). number_then r ns i at (λ v u. configuration_from k (set ns i v) (i + 1) (at + u) (drop u (l ++ m)))) (number_append l m (omega arith))
     ∙ number_same (read_number l) ns i at (length l) (λ v u. configuration_from k (set ns i v) (i + 1) (at + u) (drop u (l ++ m)))
     (λ v u. configuration_from k (set ns i v) (i + 1) (at + u) (drop u l)) (takes_number l)
     (λ v u five fit. ap (λ (x : List ℕ). configuration_from k (set ns i v) (i + 1) (at + u) x) (drop-append-le u l m fit)

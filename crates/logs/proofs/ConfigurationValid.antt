@@ -17,12 +17,12 @@ use Rattle.lists.proofs.PickLaws.{pick_by}
 use Rattle.lists.proofs.PartLaws.{get_d_part}
 use Rattle.record.specs.Number.{read_number}
 use Rattle.record.specs.declared.number.Number.{Number}
-use Rattle.record.specs.declared.number.Number.TheVariants.{Broken, Value}
 use Rattle.pools.specs.Pools.{has_pool, capacity_ok, capacities_ok, receiver_ok}
 use Rattle.ledger.specs.Audit.{ledger_ok, configured}
 use Rattle.logs.specs.Log.{ConfigurationAnswer, misconfigures, configures, configuration_from, configuration_at, number_then, value_ok, suits, receiver_at, ledger_of}
 use Rattle.pools.specs.declared.receiver.Receiver.{Receiver}
 use Rattle.ledger.proofs.FreshLaws.{fresh_valid}
+use Rattle.std.specs.Prelude.{Option, Some, None}
 
 -- ---- a number is judged by those before it
 
@@ -81,10 +81,10 @@ abbrev Good : ConfigurationAnswer → Type 0
 Good (misconfigures c p) = Unit {0}
 Good (configures ns n) = Valid ns 33
 
-number_good : (r : Number) (ns : List ℕ) (i at : ℕ) (f : ℕ → ℕ → ConfigurationAnswer) → ((v u : ℕ) → value_ok ns i v ≡ true → Good (f v u))
+number_good : (r : Option Number) (ns : List ℕ) (i at : ℕ) (f : ℕ → ℕ → ConfigurationAnswer) → ((v u : ℕ) → value_ok ns i v ≡ true → Good (f v u))
     → Good (number_then r ns i at f)
-number_good Broken ns i at f h = tt
-number_good (Value v u) ns i at f h = pick_by Good (value_ok ns i v) (λ t. h v u t) (λ t. tt)
+number_good None ns i at f h = tt
+number_good (Some number) ns i at f h = pick_by Good (value_ok ns i number.value) (λ t. h number.value number.used t) (λ t. tt)
 
 configuration_good : (k : ℕ) (ns : List ℕ) (i at : ℕ) (l : List ℕ) → i + k ≡ 33 → Valid ns i → Good (configuration_from k ns i at l)
 unfolding configuration_from

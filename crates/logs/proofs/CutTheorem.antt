@@ -16,21 +16,19 @@ use Rattle.lists.proofs.PickLaws.{pick_both}
 use Rattle.cause.specs.declared.Cause.TheVariants.{TooLong, InvalidState}
 use Rattle.record.specs.Number.{read_number}
 use Rattle.record.specs.declared.number.Number.{Number}
-use Rattle.record.specs.declared.number.Number.TheVariants.{Broken, Value}
 use Rattle.logs.specs.Log.{ConfigurationAnswer, misconfigures, configures, configuration_at, Next, over, onward, verdict_by, log_verdict}
-use Rattle.logs.specs.Stream.{max_entries, whole, settled, ready, closing, stopped_at, stepped, read_from, started, start_by, beginning, Running, valid_state, consuming, verdict_from, fresh_reader}
+use Rattle.logs.specs.Stream.{max_entries, whole, settled, ready, closing, stopped_at, stepped, read_from, started, start_by, beginning, Running, valid_state, consuming, verdict_from, fresh_reader, Outcome, More, Over}
 use Rattle.logs.specs.Cutting.{told, run}
 use Rattle.ledger.specs.declared.ledger.Ledger.{Ledger}
 use Rattle.logs.specs.declared.log.LogVerdict.{LogVerdict}
 use Rattle.logs.specs.declared.log.LogVerdict.TheVariants.{Accepted, Refused}
-use Rattle.logs.specs.declared.log.Outcome.{Outcome}
-use Rattle.logs.specs.declared.log.Outcome.TheVariants.{More, Over}
 use Rattle.logs.specs.declared.log.LogReader.{LogReader}
 use Rattle.logs.specs.declared.log.Consumed.{Consumed}
 use Rattle.logs.proofs.ConfigurationLaws.{configuration_append}
 use Rattle.logs.proofs.LogSteps.{next_at, read_stop, read_over, read_on_steps, entries_none, entries_limit, entries_over, entries_on, Fits, next_fits, next_same, when_ready}
 use Rattle.logs.proofs.LogStates.{Keeps, next_keeps, valid_running}
 use Rattle.logs.proofs.LogCalls.{begin_ended, begin_short, begin_long, rest_of, started_runs, call_bad, call_start, call_running, verdict_bad, verdict_start, verdict_running}
+use Rattle.std.specs.Prelude.{Option, Some, None}
 
 -- ---- where a call stops
 
@@ -375,9 +373,9 @@ consume_short s b = short_by s b (state_of s)
 
 -- ---- a call that asks for more leaves no whole entry behind the configuration
 
-whole_some : (l : List ℕ) (r : Number) → whole l r ≡ true → length l ≡ 0 → ⊥
-whole_some l Broken h z = never_both refl h
-whole_some l (Value v u) h z = let long = leb-true (u + 256) (length l) h in omega arith
+whole_some : (l : List ℕ) (r : Option Number) → whole l r ≡ true → length l ≡ 0 → ⊥
+whole_some l None h z = never_both refl h
+whole_some l (Some number) h z = let long = leb-true (number.used + 256) (length l) h in omega arith
 
 whole_ready : (e : ℕ) (l : List ℕ) → e < max_entries → whole l (read_number l) ≡ true → ready e l false ≡ true
 whole_ready e l few h =

@@ -11,11 +11,10 @@ use Rattle.lists.specs.Pick.{pick}
 use Rattle.cause.specs.declared.Cause.TheVariants.{InvalidState}
 use Rattle.ledger.specs.Audit.{ledger_ok}
 use Rattle.logs.specs.Log.{configures, configuration_at, entries_from, verdict_by}
-use Rattle.logs.specs.Stream.{max_entries, stopped_at, read_from, started, start_by, beginning, Running, valid_state, consuming, verdict_from}
+use Rattle.logs.specs.Stream.{max_entries, stopped_at, read_from, started, start_by, beginning, Running, valid_state, consuming, verdict_from, More, Over}
 use Rattle.logs.specs.ConcludingMirror.{counts_ok, read_on}
 use Rattle.logs.specs.declared.log.LogVerdict.{LogVerdict}
 use Rattle.logs.specs.declared.log.LogVerdict.TheVariants.{Refused}
-use Rattle.logs.specs.declared.log.Outcome.TheVariants.{More, Over}
 use Rattle.logs.specs.declared.log.LogReader.{LogReader}
 use Rattle.logs.specs.declared.log.Consumed.{Consumed}
 use Rattle.logs.proofs.ConfigurationLaws.{Holds, configuration_holds}

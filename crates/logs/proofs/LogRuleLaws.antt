@@ -15,12 +15,11 @@ use Rattle.lists.proofs.Tests.{cases, never_both, not_true_false}
 use Rattle.lists.proofs.PickLaws.{pick_both}
 use Rattle.cause.specs.declared.Cause.{Cause}
 use Rattle.cause.specs.declared.Cause.TheVariants.{BrokenRecord, TooLong}
-use Rattle.record.specs.Number.{read_number}
+use Rattle.record.specs.Number.{read_number, Broken, Value}
 use Rattle.record.specs.declared.number.Number.{Number}
-use Rattle.record.specs.declared.number.Number.TheVariants.{Broken, Value}
 use Rattle.ledger.specs.Audit.{auditing}
 use Rattle.logs.specs.Log.{ConfigurationAnswer, misconfigures, configures, configuration_at, over, onward, next_of, framed, judged, judged_at}
-use Rattle.logs.specs.Stream.{max_entries, whole, settled, ready, closing, stopped_at, stepped, read_from, started, start_by, beginning, Running, valid_state, consuming}
+use Rattle.logs.specs.Stream.{max_entries, whole, settled, ready, closing, stopped_at, stepped, read_from, started, start_by, beginning, Running, valid_state, consuming, Outcome, More, Over}
 use Rattle.ledger.specs.Calls.{Entry, AllAccepted, behind, entry_of, Enters}
 use Rattle.logs.specs.LogRules.{Enough, Says, passed, Goes, ValidLog, Consumes}
 use Rattle.ledger.specs.Calls.Enters.{none, next}
@@ -29,8 +28,6 @@ use Rattle.logs.specs.LogRules.ValidLog.{fresh, running}
 use Rattle.logs.specs.LogRules.Consumes.{invalid, waits, misconfigured, starts, goes_on}
 use Rattle.ledger.specs.declared.ledger.Ledger.{Ledger}
 use Rattle.logs.specs.declared.log.LogVerdict.TheVariants.{Accepted, Refused}
-use Rattle.logs.specs.declared.log.Outcome.{Outcome}
-use Rattle.logs.specs.declared.log.Outcome.TheVariants.{More, Over}
 use Rattle.logs.specs.declared.log.LogReader.{LogReader}
 use Rattle.logs.specs.declared.log.Consumed.{Consumed}
 use Rattle.ledger.proofs.ValidLedgerLaws.{ledger_exactly}
@@ -41,8 +38,9 @@ use Rattle.logs.proofs.LogSteps.{next_at, read_stop, read_over, read_on_steps, r
 use Rattle.logs.proofs.LogStates.{running_valid, valid_running}
 use Rattle.logs.proofs.LogCalls.{begin_ended, begin_short, begin_long, call_bad, call_start, call_running}
 use Rattle.logs.proofs.CutTheorem.{full_stop, empty_stop, closing_empty, closing_few, closing_full}
-use Rattle.cause.specs.declared.Verdict.{Verdict}
-use Rattle.cause.specs.declared.Verdict.TheVariants as verdict
+use Rattle.cause.specs.Checks as verdict
+use Rattle.cause.specs.Checks.{Verdict}
+use Rattle.std.specs.Prelude.{Ok, Err, Option, Some, None}
 
 -- ---- an entry that can be judged
 
@@ -69,20 +67,20 @@ whole_settled l ended v u g h =
 module _ (s : Ledger) (e o : ℕ) (l : List ℕ) where
   next_broken : read_number l ≡ Broken → next_of s e o l ≡ over (Refused e BrokenRecord o)
   unfolding next_of
-  next_broken g = ap (λ (r : Number). framed s e o l r) g
+  next_broken g = ap (λ (r : Option Number). framed s e o l r) g
 
   module _ (v u : ℕ) (g : read_number l ≡ Value v u) where
     next_cut : length l < u + 256 → next_of s e o l ≡ over (Refused e BrokenRecord o)
     unfolding next_of
     next_cut h =
-        ap (λ (r : Number). framed s e o l r) g
+        ap (λ (r : Option Number). framed s e o l r) g
         ∙ ap (λ (t : Bool). pick t (over (Refused e BrokenRecord o)) (judged_at s e (v % 2) l u)) (lt-ltb (length l) (u + 256) h)
 
     next_refused : (k : Cause) (p : ℕ) → u + 256 ≤ length l → (auditing s (v % 2) (take 256 (drop u l))).answer ≡ verdict.Refused k p
         → next_of s e o l ≡ over (Refused e k p)
     unfolding next_of
     next_refused k p h q =
-        ap (λ (r : Number). framed s e o l r) g
+        ap (λ (r : Option Number). framed s e o l r) g
         ∙ ap (λ (t : Bool). pick t (over (Refused e BrokenRecord o)) (judged_at s e (v % 2) l u)) (le-ltb (length l) (u + 256) h)
         ∙ ap (λ (a : Verdict). judged e (u + 256) (auditing s (v % 2) (take 256 (drop u l))).ledger a) q
 
@@ -90,14 +88,14 @@ module _ (s : Ledger) (e o : ℕ) (l : List ℕ) where
         → next_of s e o l ≡ onward (auditing s (v % 2) (take 256 (drop u l))).ledger (u + 256)
     unfolding next_of
     next_takes h q =
-        ap (λ (r : Number). framed s e o l r) g
+        ap (λ (r : Option Number). framed s e o l r) g
         ∙ ap (λ (t : Bool). pick t (over (Refused e BrokenRecord o)) (judged_at s e (v % 2) l u)) (le-ltb (length l) (u + 256) h)
         ∙ ap (λ (a : Verdict). judged e (u + 256) (auditing s (v % 2) (take 256 (drop u l))).ledger a) q
 
 -- where an entry is not whole, it is not by its number
-not_whole : (l : List ℕ) (r : Number) → ((v u : ℕ) → r ≡ Value v u → length l < u + 256) → whole l r ≡ false
-not_whole l Broken h = refl
-not_whole l (Value v u) h = lt-leb (u + 256) (length l) (h v u refl)
+not_whole : (l : List ℕ) (r : Option Number) → ((v u : ℕ) → r ≡ Value v u → length l < u + 256) → whole l r ≡ false
+not_whole l None h = refl
+not_whole l (Some number) h = lt-leb (number.used + 256) (length l) (h number.value number.used refl)
 
 -- ---- where a call stops
 
@@ -210,23 +208,23 @@ data Step (s : Ledger) (e o : ℕ) (l : List ℕ) (ended : Bool) : Type 0 where
 module _ (s : Ledger) (e o : ℕ) (l : List ℕ) (ended : Bool) where
   step_answer : (v u : ℕ) → e < max_entries → read_number l ≡ Value v u → u + 256 ≤ length l → (a : Verdict) → (auditing s (v % 2) (take 256 (drop u l))).answer ≡ a
       → Step s e o l ended
-  step_answer v u few g h (verdict.Refused k p) q = said (Over (Refused e k p)) (refuses v u k p few g h q)
-  step_answer v u few g h verdict.Accepted q = taken v u few g h q
+  step_answer v u few g h (Err fault) q = said (Over (Refused e fault.cause fault.place)) (refuses v u fault.cause fault.place few g h q)
+  step_answer v u few g h (Ok _) q = taken v u few g h q
 
-  step_number : 0 < length l → e < max_entries → (r : Number) → read_number l ≡ r → Step s e o l ended
-  step_number some few Broken g =
+  step_number : 0 < length l → e < max_entries → (r : Option Number) → read_number l ≡ r → Step s e o l ended
+  step_number some few None g =
       enough_or l ended (λ enough. said (Over (Refused e BrokenRecord o)) (broken some few enough g))
       (λ more short. said More (asks more (inl few) short (λ v u h. absurd (let z : ◌≡◌ {A = ℕ} 0 1 = cc in omega arith))))
-  step_number some few (Value v u) g =
+  step_number some few (Some number) g =
       ⊎_elim
-      (λ (short : length l < u + 256). ⊎_elim
-      (λ (t : ended ≡ true). said (Over (Refused e BrokenRecord o)) (cut v u few t g short))
+      (λ (short : length l < number.used + 256). ⊎_elim
+      (λ (t : ended ≡ true). said (Over (Refused e BrokenRecord o)) (cut number.value number.used few t g short))
       (λ (f : ended ≡ false).
-      let five = number_takes l v u g in
-      said More (asks f (inl few) (omega arith) (λ x y h. let same : u ≡ y = cc in omega arith)))
+      let five = number_takes l number.value number.used g in
+      said More (asks f (inl few) (omega arith) (λ x y h. let same : number.used ≡ y = cc in omega arith)))
       (cases ended))
-      (λ (q : u + 256 ≤ length l). step_answer v u few g q (auditing s (v % 2) (take 256 (drop u l))).answer refl)
-      (lt_or_le (length l) (u + 256))
+      (λ (q : number.used + 256 ≤ length l). step_answer number.value number.used few g q (auditing s (number.value % 2) (take 256 (drop number.used l))).answer refl)
+      (lt_or_le (length l) (number.used + 256))
 
   step_of : Step s e o l ended
   step_of =

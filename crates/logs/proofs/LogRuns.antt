@@ -15,7 +15,6 @@ use Rattle.lists.proofs.PickLaws.{pick_both}
 use Rattle.cause.specs.declared.Cause.TheVariants.{BrokenRecord, TooLong, InvalidState}
 use Rattle.record.specs.Number.{read_number}
 use Rattle.record.specs.declared.number.Number.{Number}
-use Rattle.record.specs.declared.number.Number.TheVariants.{Broken, Value}
 use Rattle.record.proofs.NumberTakes.{number_takes}
 use Rattle.ledger.specs.Audit.{ledger_ok, auditing}
 use Rattle.ledger.specs.Calls.{behind, entry_of, NoEntry}
@@ -26,18 +25,17 @@ use Rattle.ledger.specs.declared.entries.Run.{Run}
 use Rattle.ledger.proofs.ValidLedgerLaws.{ledger_exactly}
 use Rattle.ledger.proofs.RunLaws.{Bounded, over_bounded}
 use Rattle.ledger.proofs.RunRuleLaws.{run_follows}
-use Rattle.logs.specs.Stream.{max_entries, stopped_at, read_from}
+use Rattle.logs.specs.Stream.{max_entries, stopped_at, read_from, Outcome, More, Over}
 use Rattle.logs.specs.ConcludingMirror.{concluding, read_on}
 use Rattle.logs.specs.LogRules.{Enough, Says, Goes}
 use Rattle.logs.specs.LogRules.Says.{accepts, long, broken, cut, refuses, asks}
 use Rattle.logs.specs.declared.log.LogVerdict.TheVariants.{Accepted, Refused}
-use Rattle.logs.specs.declared.log.Outcome.{Outcome}
-use Rattle.logs.specs.declared.log.Outcome.TheVariants.{More, Over}
 use Rattle.logs.specs.declared.log.LogReader.{LogReader}
 use Rattle.logs.specs.declared.log.Consumed.{Consumed}
 use Rattle.logs.proofs.LogRuleLaws.{goes_only, enough_or}
-use Rattle.cause.specs.declared.Verdict.{Verdict}
-use Rattle.cause.specs.declared.Verdict.TheVariants as verdict
+use Rattle.cause.specs.Checks as verdict
+use Rattle.cause.specs.Checks.{Verdict}
+use Rattle.std.specs.Prelude.{Ok, Err, Option, Some, None}
 
 -- ---- what is said where no whole entry is left
 
@@ -51,12 +49,12 @@ module _ (s : Ledger) (e o : ℕ) (l : List ℕ) (ended : Bool) where
   none_left z false more = asks more (inr z) (omega arith) (λ v u g. omega arith)
 
   -- an entry begins, and is not whole
-  broken_left : 0 < length l → e < max_entries → Enough l ended → NoEntry l → (r : Number) → read_number l ≡ r → Said (Over (Refused e BrokenRecord o))
-  broken_left some few enough lacks Broken g = broken some few enough g
-  broken_left some few enough lacks (Value v u) g =
-      let short = lacks v u g in
-      let five = (number_takes l v u g).1.0 in
-      ⊎_elim (λ (end : ended ≡ true). cut v u few end g short) (λ (long : 261 ≤ length l). absurd (omega arith)) enough
+  broken_left : 0 < length l → e < max_entries → Enough l ended → NoEntry l → (r : Option Number) → read_number l ≡ r → Said (Over (Refused e BrokenRecord o))
+  broken_left some few enough lacks None g = broken some few enough g
+  broken_left some few enough lacks (Some number) g =
+      let short = lacks number.value number.used g in
+      let five = (number_takes l number.value number.used g).1.0 in
+      ⊎_elim (λ (end : ended ≡ true). cut number.value number.used few end g short) (λ (long : 261 ≤ length l). absurd (omega arith)) enough
 
   abbrev enough : Bool
   enough = pick ended true (leb 261 (length l))
@@ -91,8 +89,8 @@ module _ (s : Ledger) (e o : ℕ) (l : List ℕ) (ended : Bool) where
 
 -- what the answer of a run comes to
 abbrev pub said_by : Verdict → ℕ → ℕ → ℕ → Bool → Outcome
-said_by (verdict.Refused c p) e o left ended = Over (Refused e c p)
-said_by verdict.Accepted e o left ended = concluding e o left ended
+said_by (Err fault) e o left ended = Over (Refused e fault.cause fault.place)
+said_by (Ok _) e o left ended = concluding e o left ended
 
 module _ (b : List ℕ) (at : ℕ) (ended : Bool) (s : LogReader) where
   -- the state behind a run, and the call

@@ -12,7 +12,6 @@ use Rattle.lists.proofs.Tests.{never_both, not_true_false, and_left, and_right}
 use Rattle.lists.proofs.PickLaws.{pick_both}
 use Rattle.record.specs.Number.{read_number}
 use Rattle.record.specs.declared.number.Number.{Number}
-use Rattle.record.specs.declared.number.Number.TheVariants.{Broken, Value}
 use Rattle.ledger.specs.Audit.{ledger_ok, auditing}
 use Rattle.logs.specs.Log.{Next, over, onward, next_of, framed, judged}
 use Rattle.logs.specs.Stream.{max_entries, Running, valid_state}
@@ -20,8 +19,8 @@ use Rattle.logs.specs.ConcludingMirror.{counts_ok}
 use Rattle.ledger.specs.declared.ledger.Ledger.{Ledger}
 use Rattle.logs.specs.declared.log.LogReader.{LogReader}
 use Rattle.ledger.proofs.AnswerLaws.{audit_keeps}
-use Rattle.cause.specs.declared.Verdict.{Verdict}
-use Rattle.cause.specs.declared.Verdict.TheVariants.{Accepted, Refused}
+use Rattle.cause.specs.Checks.{Verdict}
+use Rattle.std.specs.Prelude.{Ok, Err, Option, Some, None}
 
 -- ---- an entry
 
@@ -30,15 +29,15 @@ Keeps (over v) = Unit {0}
 Keeps (onward next u) = ledger_ok next ≡ true
 
 keeps_judged : (e u : ℕ) (next : Ledger) (a : Verdict) → ledger_ok next ≡ true → Keeps (judged e u next a)
-keeps_judged e u next (Refused c p) h = tt
-keeps_judged e u next Accepted h = h
+keeps_judged e u next (Err fault) h = tt
+keeps_judged e u next (Ok _) h = h
 
-keeps_framed : (s : Ledger) (e o : ℕ) (l : List ℕ) (r : Number) → ledger_ok s ≡ true → Keeps (framed s e o l r)
-keeps_framed s e o l Broken h = tt
-keeps_framed s e o l (Value v u) h =
-    pick_both Keeps (ltb (length l) (u + 256)) tt
-    (keeps_judged e (u + 256) (auditing s (v % 2) (take 256 (drop u l))).ledger (auditing s (v % 2) (take 256 (drop u l))).answer
-    (audit_keeps s (v % 2) (take 256 (drop u l)) h))
+keeps_framed : (s : Ledger) (e o : ℕ) (l : List ℕ) (r : Option Number) → ledger_ok s ≡ true → Keeps (framed s e o l r)
+keeps_framed s e o l None h = tt
+keeps_framed s e o l (Some number) h =
+    pick_both Keeps (ltb (length l) (number.used + 256)) tt
+    (keeps_judged e (number.used + 256) (auditing s (number.value % 2) (take 256 (drop number.used l))).ledger (auditing s (number.value % 2) (take 256 (drop number.used l))).answer
+    (audit_keeps s (number.value % 2) (take 256 (drop number.used l)) h))
 
 pub next_keeps : (s : Ledger) (e o : ℕ) (l : List ℕ) → ledger_ok s ≡ true → Keeps (next_of s e o l)
 unfolding next_of

@@ -12,20 +12,18 @@ use Rattle.lists.specs.Pick.{pick}
 use Rattle.lists.proofs.Tests.{never_both}
 use Rattle.lists.proofs.PickLaws.{pick_by}
 use Rattle.cause.specs.declared.Cause.TheVariants.{BrokenRecord, TooLong}
-use Rattle.record.specs.Number.{read_number}
+use Rattle.record.specs.Number.{read_number, Value}
 use Rattle.record.specs.declared.number.Number.{Number}
-use Rattle.record.specs.declared.number.Number.TheVariants.{Broken, Value}
 use Rattle.ledger.specs.Audit.{auditing}
 use Rattle.logs.specs.Log.{Next, over, onward, next_of, framed, judged, judged_at, after, entries_from}
-use Rattle.logs.specs.Stream.{max_entries, whole, settled, ready, closing, stopped_at, stepped, read_from}
+use Rattle.logs.specs.Stream.{max_entries, whole, settled, ready, closing, stopped_at, stepped, read_from, Over}
 use Rattle.ledger.specs.declared.ledger.Ledger.{Ledger}
 use Rattle.logs.specs.declared.log.LogVerdict.{LogVerdict}
 use Rattle.logs.specs.declared.log.LogVerdict.TheVariants.{Accepted, Refused}
-use Rattle.logs.specs.declared.log.Outcome.TheVariants.{Over}
 use Rattle.logs.specs.declared.log.LogReader.{LogReader}
 use Rattle.record.proofs.NumberTakes.{Takes, takes_number, number_append, number_stays}
-use Rattle.cause.specs.declared.Verdict.{Verdict}
-use Rattle.cause.specs.declared.Verdict.TheVariants as verdict
+use Rattle.cause.specs.Checks.{Verdict}
+use Rattle.std.specs.Prelude.{Ok, Err, Option, Some, None}
 
 -- the entry at the front of the bytes from `at` on
 abbrev pub next_at : LogReader → List ℕ → Next
@@ -90,15 +88,15 @@ Fits (over v) m = Unit {0}
 Fits (onward next u) m = (257 ≤ u) × ((u ≤ 261) × (u ≤ m))
 
 fits_judged : (e u m : ℕ) (next : Ledger) (a : Verdict) → 257 ≤ u → u ≤ 261 → u ≤ m → Fits (judged e u next a) m
-fits_judged e u m next (verdict.Refused c p) x y z = tt
-fits_judged e u m next verdict.Accepted x y z = (x, (y, z))
+fits_judged e u m next (Err fault) x y z = tt
+fits_judged e u m next (Ok _) x y z = (x, (y, z))
 
-fits_framed : (s : Ledger) (e o : ℕ) (l : List ℕ) (r : Number) → Takes r 5 (length l) → Fits (framed s e o l r) (length l)
-fits_framed s e o l Broken h = tt
-fits_framed s e o l (Value v u) h =
-    pick_by (λ (n : Next). Fits n (length l)) (ltb (length l) (u + 256)) (λ t. tt)
-    (λ t. fits_judged e (u + 256) (length l) (auditing s (v % 2) (take 256 (drop u l))).ledger (auditing s (v % 2) (take 256 (drop u l))).answer
-    (omega (arith, h.0)) (omega (arith, h.1.0)) (ltb-false (length l) (u + 256) t))
+fits_framed : (s : Ledger) (e o : ℕ) (l : List ℕ) (r : Option Number) → Takes r 5 (length l) → Fits (framed s e o l r) (length l)
+fits_framed s e o l None h = tt
+fits_framed s e o l (Some number) h =
+    pick_by (λ (n : Next). Fits n (length l)) (ltb (length l) (number.used + 256)) (λ t. tt)
+    (λ t. fits_judged e (number.used + 256) (length l) (auditing s (number.value % 2) (take 256 (drop number.used l))).ledger (auditing s (number.value % 2) (take 256 (drop number.used l))).answer
+    (omega (arith, h.0)) (omega (arith, h.1.0)) (ltb-false (length l) (number.used + 256) t))
 
 pub next_fits : (s : Ledger) (e o : ℕ) (l : List ℕ) → Fits (next_of s e o l) (length l)
 unfolding next_of
@@ -115,22 +113,22 @@ framed_same s e o l m v u h =
     ∙ ap (λ (x : List ℕ). judged e (u + 256) (auditing s (v % 2) x).ledger (auditing s (v % 2) x).answer) body
     ∙ ap (λ (t : Bool). pick t (over (Refused e BrokenRecord o)) (judged_at s e (v % 2) l u)) (sym long)
 
-framed_append : (s : Ledger) (e o : ℕ) (l m : List ℕ) (r : Number) → Takes r 5 (length l) → 261 ≤ length l
+framed_append : (s : Ledger) (e o : ℕ) (l m : List ℕ) (r : Option Number) → Takes r 5 (length l) → 261 ≤ length l
     → framed s e o (l ++ m) r ≡ framed s e o l r
-framed_append s e o l m Broken t h = refl
-framed_append s e o l m (Value v u) t h = framed_same s e o l m v u (omega (arith, t.1.0))
+framed_append s e o l m None t h = refl
+framed_append s e o l m (Some number) t h = framed_same s e o l m number.value number.used (omega (arith, t.1.0))
 
 -- no more than 261 bytes are looked at
 next_append : (s : Ledger) (e o : ℕ) (l m : List ℕ) → 261 ≤ length l → next_of s e o (l ++ m) ≡ next_of s e o l
 unfolding next_of
 next_append s e o l m h =
-    ap (λ (r : Number). framed s e o (l ++ m) r) (number_append l m (omega arith)) ∙ framed_append s e o l m (read_number l) (takes_number l) h
+    ap (λ (r : Option Number). framed s e o (l ++ m) r) (number_append l m (omega arith)) ∙ framed_append s e o l m (read_number l) (takes_number l) h
 
-framed_whole : (s : Ledger) (e o : ℕ) (l m : List ℕ) (r : Number) → read_number l ≡ r → whole l r ≡ true
+framed_whole : (s : Ledger) (e o : ℕ) (l m : List ℕ) (r : Option Number) → read_number l ≡ r → whole l r ≡ true
     → framed s e o (l ++ m) (read_number (l ++ m)) ≡ framed s e o l r
-framed_whole s e o l m Broken n h = absurd (never_both refl h)
-framed_whole s e o l m (Value v u) n h =
-    ap (λ (r : Number). framed s e o (l ++ m) r) (number_stays l m v u n) ∙ framed_same s e o l m v u (leb-true (u + 256) (length l) h)
+framed_whole s e o l m None n h = absurd (never_both refl h)
+framed_whole s e o l m (Some number) n h =
+    ap (λ (r : Option Number). framed s e o (l ++ m) r) (number_stays l m number.value number.used n) ∙ framed_same s e o l m number.value number.used (leb-true (number.used + 256) (length l) h)
 
 next_whole : (s : Ledger) (e o : ℕ) (l m : List ℕ) → whole l (read_number l) ≡ true → next_of s e o (l ++ m) ≡ next_of s e o l
 unfolding next_of

@@ -15,7 +15,6 @@ use Rattle.cause.specs.declared.Cause.{Cause}
 use Rattle.cause.specs.declared.Cause.TheVariants.{BrokenRecord, InvalidState}
 use Rattle.record.specs.Number.{read_number}
 use Rattle.record.specs.declared.number.Number.{Number}
-use Rattle.record.specs.declared.number.Number.TheVariants.{Broken, Value}
 use Rattle.pools.specs.Pools.{has_pool}
 use Rattle.pools.specs.PoolRules.{Exists}
 use Rattle.logs.specs.Log.{misconfigures, configures, configuration_from, configuration_at, value_ok, suits, receiver_at}
@@ -27,6 +26,7 @@ use Rattle.pools.specs.declared.receiver.Receiver.{Receiver}
 use Rattle.pools.proofs.PoolRuleLaws.{exists_exactly}
 use Rattle.logs.proofs.ConfigurationLaws.{configuration_broken, configuration_wrong, configuration_on, configuration_done}
 use Rattle.logs.proofs.ConfigurationValid.{value_same, value_at, suits_capacity}
+use Rattle.std.specs.Prelude.{Option, Some, None}
 
 -- ---- a number may stand where the test says so
 
@@ -127,14 +127,14 @@ pub data Configuration (l : List ℕ) : Type 0 where
   bad : (k : Cause) (p : ℕ) → ConfigurationFault l k p → Configuration l
 
 module _ (l : List ℕ) where
-  by_number : (ns : List ℕ) (n : ℕ) → Numbers l ns n → length ns < 33 → (r : Number) → read_number (drop n l) ≡ r
+  by_number : (ns : List ℕ) (n : ℕ) → Numbers l ns n → length ns < 33 → (r : Option Number) → read_number (drop n l) ≡ r
       → ((v u : ℕ) → Numbers l (ns ++ (v ∷ [])) (n + u) → Configuration l) → Configuration l
-  by_number ns n f low Broken e go = bad BrokenRecord n (broken ns n f low e)
-  by_number ns n f low (Value v u) e go =
+  by_number ns n f low None e go = bad BrokenRecord n (broken ns n f low e)
+  by_number ns n f low (Some number) e go =
       ⊎_elim
-      (λ (t : value_ok ns (length ns) v ≡ true). go v u (next v u f e ((suits_exactly ns v low).0 t)))
-      (λ (t : value_ok ns (length ns) v ≡ false). bad InvalidState 0 (invalid ns n v u f low e (λ s. never_both t ((suits_exactly ns v low).1 s))))
-      (cases (value_ok ns (length ns) v))
+      (λ (t : value_ok ns (length ns) number.value ≡ true). go number.value number.used (next number.value number.used f e ((suits_exactly ns number.value low).0 t)))
+      (λ (t : value_ok ns (length ns) number.value ≡ false). bad InvalidState 0 (invalid ns n number.value number.used f low e (λ s. never_both t ((suits_exactly ns number.value low).1 s))))
+      (cases (value_ok ns (length ns) number.value))
 
   configured_from : (k : ℕ) (ns : List ℕ) (n : ℕ) → Numbers l ns n → length ns + k ≡ 33 → Configuration l
   configured_from zero ns n f e = good ns n f (omega arith)

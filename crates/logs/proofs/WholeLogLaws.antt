@@ -9,11 +9,10 @@ use lib.ListN.{length, get_or, drop}
 use lib.Seq.{drop-drop}
 use Rattle.cause.specs.declared.Cause.{Cause}
 use Rattle.cause.specs.declared.Cause.TheVariants.{BrokenRecord, TooLong}
-use Rattle.record.specs.declared.number.Number.TheVariants.{Value}
-use Rattle.record.specs.Number.{read_number}
+use Rattle.record.specs.Number.{read_number, Value}
 use Rattle.ledger.specs.Audit.{auditing}
 use Rattle.logs.specs.Log.{receiver_at, ledger_of, log_verdict}
-use Rattle.logs.specs.Stream.{max_entries, started, stopped_at, fresh_reader}
+use Rattle.logs.specs.Stream.{max_entries, started, stopped_at, fresh_reader, Outcome, Over}
 use Rattle.ledger.specs.Calls.{behind, entry_of}
 use Rattle.logs.specs.LogRules.{Numbers, ConfigurationFault, Says, passed, Goes, Consumes}
 use Rattle.logs.specs.LogRules.ConfigurationFault.{broken as number-broken, invalid as number-invalid}
@@ -26,15 +25,13 @@ use Rattle.logs.specs.WholeLog.Framing.{broken_record, too_long, invalid_state}
 use Rattle.ledger.specs.declared.ledger.Ledger.{Ledger}
 use Rattle.logs.specs.declared.log.LogVerdict.{LogVerdict}
 use Rattle.logs.specs.declared.log.LogVerdict.TheVariants.{Accepted, Refused}
-use Rattle.logs.specs.declared.log.Outcome.{Outcome}
-use Rattle.logs.specs.declared.log.Outcome.TheVariants.{Over}
 use Rattle.logs.specs.declared.log.Consumed.{Consumed}
 use Rattle.ledger.proofs.ValidLedgerLaws.{configured_exactly}
 use Rattle.logs.proofs.ConfigurationValid.{configuration_configured}
 use Rattle.logs.proofs.NumberRuleLaws.{numbers_set_up}
 use Rattle.logs.proofs.LogRuleLaws.{consume_only, consume_follows}
 use Rattle.logs.proofs.CutTheorem.{whole_log}
-use Rattle.cause.specs.declared.Verdict.TheVariants as verdict
+use Rattle.cause.specs.Checks as verdict
 
 -- ---- what a verdict comes from
 

@@ -3,10 +3,8 @@ use Rattle.std.specs.Prelude.{ℕ, ◌+◌, ◌-◌, ◌*◌, Bool, true, ◌&&�
 use Rattle.lists.specs.Pick.{pick}
 use Rattle.cause.specs.declared.Cause.TheVariants.{BrokenRecord, TooLong, InvalidState}
 use Rattle.ledger.specs.Audit.{ledger_ok}
-use Rattle.logs.specs.Stream.{max_entries, stopped_at, read_from}
+use Rattle.logs.specs.Stream.{max_entries, stopped_at, read_from, Outcome, More, Over}
 use Rattle.logs.specs.declared.log.LogVerdict.TheVariants.{Accepted, Refused}
-use Rattle.logs.specs.declared.log.Outcome.{Outcome}
-use Rattle.logs.specs.declared.log.Outcome.TheVariants.{More, Over}
 use Rattle.logs.specs.declared.log.LogReader.{LogReader}
 use Rattle.logs.specs.declared.log.Consumed.{Consumed}
 

@@ -1,12 +1,11 @@
 -- The verdict on a whole log (document 01, "The log and the host").
-use Rattle.std.specs.Prelude.{ℕ, zero, suc, ◌+◌, ◌-◌, ◌*◌, ◌/◌, ◌%◌, Bool, ◌&&◌, ◌||◌, List, length, get_or, set, take, drop, replicate, eqb, ltb, leb}
+use Rattle.std.specs.Prelude.{ℕ, zero, suc, ◌+◌, ◌-◌, ◌*◌, ◌/◌, ◌%◌, Bool, ◌&&◌, ◌||◌, List, length, get_or, set, take, drop, replicate, eqb, ltb, leb, Result, Ok, Err, Option, Some, None}
 use Rattle.lists.specs.Pick.{pick}
 use Rattle.cause.specs.declared.Cause.{Cause}
 use Rattle.cause.specs.declared.Cause.TheVariants.{BrokenRecord, TooLong, InvalidState}
-use Rattle.cause.specs.declared.Verdict.TheVariants as verdict
+use Rattle.cause.specs.declared.Fault.{Fault}
 use Rattle.record.specs.Number.{read_number}
 use Rattle.record.specs.declared.number.Number.{Number}
-use Rattle.record.specs.declared.number.Number.TheVariants.{Broken, Value}
 use Rattle.pools.specs.Pools.{has_pool, pool_count, max_planes, max_capacity}
 use Rattle.ledger.specs.Audit.{auditing, fresh_ledger}
 use Rattle.pools.specs.declared.receiver.Receiver.{Receiver}
@@ -14,8 +13,8 @@ use Rattle.ledger.specs.declared.ledger.Ledger.{Ledger}
 use Rattle.logs.specs.declared.configuration.Configuration.{Configuration}
 use Rattle.logs.specs.declared.log.LogVerdict.{LogVerdict}
 use Rattle.logs.specs.declared.log.LogVerdict.TheVariants.{Accepted, Refused}
-use Rattle.cause.specs.declared.Verdict.{Verdict}
 use Rattle.container.specs.Layout.{container_size}
+use Rattle.cause.specs.Checks.{Verdict}
 
 -- the numbers of a configuration
 abbrev pub number_count : ℕ
@@ -45,9 +44,9 @@ pub data ConfigurationAnswer : Type 0 where
   configures : List ℕ → ℕ → ConfigurationAnswer
 
 -- number i at byte `at`, 17 before 19; where it is good, what comes behind it
-abbrev pub number_then : Number → List ℕ → ℕ → ℕ → (ℕ → ℕ → ConfigurationAnswer) → ConfigurationAnswer
-number_then Broken ns i at rest = misconfigures BrokenRecord at
-number_then (Value v u) ns i at rest = pick (value_ok ns i v) (rest v u) (misconfigures InvalidState 0)
+abbrev pub number_then : Option Number → List ℕ → ℕ → ℕ → (ℕ → ℕ → ConfigurationAnswer) → ConfigurationAnswer
+number_then None ns i at rest = misconfigures BrokenRecord at
+number_then (Some number) ns i at rest = pick (value_ok ns i number.value) (rest number.value number.used) (misconfigures InvalidState 0)
 
 -- k more numbers, from number i at byte `at` on, at the front of l
 unfoldable pub configuration_from : ℕ → List ℕ → ℕ → ℕ → List ℕ → ConfigurationAnswer
@@ -58,10 +57,10 @@ configuration_from (suc k) ns i at l = number_then (read_number l) ns i at (λ v
 abbrev pub configuration_at : List ℕ → ConfigurationAnswer
 configuration_at l = configuration_from number_count (replicate number_count 0) 0 0 l
 
--- the numbers, the bytes and the verdict of a configuration; of one that is not taken there are none
-abbrev pub configuration_of : ConfigurationAnswer → Configuration
-configuration_of (configures ns n) = record { numbers = ns; used = n; verdict = verdict.Accepted }
-configuration_of (misconfigures c p) = record { numbers = replicate number_count 0; used = 0; verdict = verdict.Refused c p }
+-- the numbers and the bytes of a configuration, or its fault
+abbrev pub configuration_of : ConfigurationAnswer → Result Configuration Fault
+configuration_of (configures ns n) = Ok (record { numbers = ns; used = n })
+configuration_of (misconfigures c p) = Err (record { cause = c; place = p })
 
 -- what an entry comes to: the verdict on the log, or the next ledger and the entry's bytes
 pub data Next : Type 0 where
@@ -70,17 +69,17 @@ pub data Next : Type 0 where
 
 -- an entry of u bytes by the audit's answer, behind e entries
 abbrev pub judged : ℕ → ℕ → Ledger → Verdict → Next
-judged e u next (verdict.Refused c p) = over (Refused e c p)
-judged e u next verdict.Accepted = onward next u
+judged e u next (Err fault) = over (Refused e fault.cause fault.place)
+judged e u next (Ok _) = onward next u
 
 -- the container behind u bytes of number goes to the audit
 abbrev pub judged_at : Ledger → ℕ → ℕ → List ℕ → ℕ → Next
 judged_at s e d l u = judged e (u + container_size) (auditing s d (take container_size (drop u l))).ledger (auditing s d (take container_size (drop u l))).answer
 
 -- an entry at offset o by its number, which is 2·ticks + direction: one that is cut short is 17
-abbrev pub framed : Ledger → ℕ → ℕ → List ℕ → Number → Next
-framed s e o l Broken = over (Refused e BrokenRecord o)
-framed s e o l (Value v u) = pick (ltb (length l) (u + container_size)) (over (Refused e BrokenRecord o)) (judged_at s e (v % 2) l u)
+abbrev pub framed : Ledger → ℕ → ℕ → List ℕ → Option Number → Next
+framed s e o l None = over (Refused e BrokenRecord o)
+framed s e o l (Some number) = pick (ltb (length l) (number.used + container_size)) (over (Refused e BrokenRecord o)) (judged_at s e (number.value % 2) l number.used)
 
 -- the entry at the front of l, at offset o, behind e entries
 unfoldable pub next_of : Ledger → ℕ → ℕ → List ℕ → Next

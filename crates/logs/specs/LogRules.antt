@@ -2,21 +2,18 @@
 use Rattle.std.specs.Prelude.{ℕ, ◌+◌, ◌*◌, ◌≤◌, ◌<◌, ◌≡◌, Bool, true, false, List, [], ◌∷◌, ◌++◌, ◌⊎◌, length, drop}
 use Rattle.cause.specs.declared.Cause.{Cause}
 use Rattle.cause.specs.declared.Cause.TheVariants.{BrokenRecord, TooLong, InvalidState}
-use Rattle.record.specs.Number.{read_number}
-use Rattle.record.specs.declared.number.Number.TheVariants.{Broken, Value}
+use Rattle.record.specs.Number.{read_number, Broken, Value}
 use Rattle.pools.specs.PoolRules.{Exists}
 use Rattle.ledger.specs.Audit.{auditing}
 use Rattle.logs.specs.Log.{receiver_at}
-use Rattle.logs.specs.Stream.{max_entries, stopped_at, started}
+use Rattle.logs.specs.Stream.{max_entries, stopped_at, started, Outcome, More, Over}
 use Rattle.ledger.specs.Calls.{Entry, AllAccepted, behind, entry_of, Enters, NoEntry}
 use Rattle.ledger.specs.ValidLedger.{ValidLedger}
 use Rattle.ledger.specs.declared.ledger.Ledger.{Ledger}
 use Rattle.logs.specs.declared.log.LogVerdict.TheVariants.{Accepted, Refused}
-use Rattle.logs.specs.declared.log.Outcome.{Outcome}
-use Rattle.logs.specs.declared.log.Outcome.TheVariants.{More, Over}
 use Rattle.logs.specs.declared.log.LogReader.{LogReader}
 use Rattle.logs.specs.declared.log.Consumed.{Consumed}
-use Rattle.cause.specs.declared.Verdict.TheVariants as verdict
+use Rattle.cause.specs.Checks as verdict
 
 -- ---- the configuration: "format, then for each direction N, push (0 or 1), 14 capacities"
 

@@ -1,20 +1,27 @@
 -- A log read in parts (document 01, "The log and the host"): what one call makes of the bytes at hand.
-use Rattle.std.specs.Prelude.{ℕ, zero, suc, ◌+◌, ◌-◌, ◌*◌, ◌≤◌, ◌≡◌, Bool, true, false, ◌&&◌, List, length, drop, replicate, ltb, leb, eqb}
+use Rattle.std.specs.Prelude.{ℕ, zero, suc, ◌+◌, ◌-◌, ◌*◌, ◌≤◌, ◌≡◌, Bool, true, false, ◌&&◌, List, length, drop, replicate, ltb, leb, eqb, Option, Some, None}
 use Rattle.lists.specs.Pick.{pick}
 use Rattle.cause.specs.declared.Cause.TheVariants.{TooLong, InvalidState}
 use Rattle.record.specs.Number.{read_number}
 use Rattle.record.specs.declared.number.Number.{Number}
-use Rattle.record.specs.declared.number.Number.TheVariants.{Broken, Value}
 use Rattle.ledger.specs.Audit.{ledger_ok}
 use Rattle.logs.specs.Log.{ConfigurationAnswer, misconfigures, configures, configuration_at, ledger_of, next_of, after, entries_from, verdict_by, number_count}
 use Rattle.ledger.specs.declared.ledger.Ledger.{Ledger}
 use Rattle.logs.specs.declared.log.LogVerdict.{LogVerdict}
 use Rattle.logs.specs.declared.log.LogVerdict.TheVariants.{Accepted, Refused}
-use Rattle.logs.specs.declared.log.Outcome.{Outcome}
-use Rattle.logs.specs.declared.log.Outcome.TheVariants.{More, Over}
 use Rattle.logs.specs.declared.log.LogReader.{LogReader}
 use Rattle.logs.specs.declared.log.Consumed.{Consumed}
 use Rattle.container.specs.Layout.{container_size}
+
+-- what a call comes to: more bytes are asked for, or the verdict is there
+abbrev pub Outcome : Type 0
+Outcome = Option LogVerdict
+
+abbrev pub More : Outcome
+More = None
+
+abbrev pub Over : LogVerdict → Outcome
+Over v = Some v
 
 -- the most entries of a log
 abbrev pub max_entries : ℕ
@@ -34,9 +41,9 @@ abbrev pub longest_entry : ℕ
 longest_entry = 261
 
 -- the bytes of the entry at the front of l are there, by its number
-abbrev pub whole : List ℕ → Number → Bool
-whole l Broken = false
-whole l (Value v u) = leb (u + container_size) (length l)
+abbrev pub whole : List ℕ → Option Number → Bool
+whole l None = false
+whole l (Some number) = leb (number.used + container_size) (length l)
 
 -- nothing that may follow changes the entry at the front of l: the log has ended, no entry has more bytes, or its bytes are there
 abbrev pub settled : List ℕ → Bool → Bool

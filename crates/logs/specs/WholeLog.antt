@@ -8,7 +8,7 @@ use Rattle.logs.specs.Log.{receiver_at, ledger_of}
 use Rattle.logs.specs.Stream.{max_entries}
 use Rattle.ledger.specs.Calls.{Entry, AllAccepted, behind, Enters}
 use Rattle.logs.specs.LogRules.{Numbers}
-use Rattle.cause.specs.declared.Verdict.TheVariants.{Refused}
+use Rattle.cause.specs.Checks.{Refused}
 
 -- a log begins with a valid configuration and n entries that the audit accepts one after the other
 pub record BegunLog (l : List ℕ) (n : ℕ) : Type 0 where

@@ -1,8 +1,9 @@
 // The configuration of a log: its numbers, judged as they are read, and the ledger that they start.
 ghost use Rattle.std.specs.Prelude.{◌≡◌, ◌≤◌, ◌<◌};
-ghost use Rattle.logs.specs.Log.{misconfigures, receiver_at, suits, value_ok, configuration_at, configuration_of, ledger_of};
+ghost use Rattle.logs.specs.Log.{receiver_at, suits, value_ok, configuration_at, configuration_of, ledger_of};
 
-use cause::{Cause, Verdict};
+use cause::{Cause, Fault};
+use container::FORMATS;
 use ledger::Ledger;
 use pools::{MAX_CAPACITY, MAX_PLANES, Receiver, take_row};
 use record::{Number, read_number};
@@ -12,12 +13,11 @@ const NUMBERS: usize = 33;
 
 const RECEIVER_NUMBERS: usize = 16;
 
-// The numbers of a configuration, its bytes, and whether it is one; none where it is not.
-#[derive(Clone, Copy)]
+// The numbers of a configuration, and its bytes.
+#[derive(Clone, Copy, Debug, PartialEq, Eq)]
 pub struct Configuration {
     pub numbers: [u32; NUMBERS],
     pub used: usize,
-    pub verdict: Verdict,
 }
 
 // The receiver of the sixteen numbers from `start` on.
@@ -61,50 +61,33 @@ fn suits_place(numbers: [u32; NUMBERS], i: usize, value: u32) -> bool
     ensures { result ≡ value_ok numbers i value }
 {
     if i == 0 {
-        return value < 2;
+        return value < FORMATS;
     }
     let start = (i - 1) / RECEIVER_NUMBERS * RECEIVER_NUMBERS + 1;
     let place = (i - 1) % RECEIVER_NUMBERS;
     suits_receiver(take_receiver(numbers, start), place as u32, value)
 }
 
-// No configuration.
-fn refuse_numbers(cause: Cause, place: u64) -> Configuration
-    ensures { result ≡ configuration_of (misconfigures cause place) }
-{
-    Configuration {
-        numbers: [0u32; NUMBERS],
-        used: 0,
-        verdict: Verdict::Refused(cause, place),
-    }
-}
-
 // The configuration at the front of the bytes: each number is judged for its form and then for its value.
-pub fn read_configuration(bytes: &[u8]) -> Configuration
+pub fn read_configuration(bytes: &[u8]) -> Result<Configuration, Fault>
     ensures { result ≡ configuration_of (configuration_at bytes.now) }
 {
     let mut numbers = [0u32; NUMBERS];
     let mut at = 0;
     for i in 0..NUMBERS {
-        let number = read_number(&bytes[at..]);
-        match number {
-            Number::Broken => {
-                return refuse_numbers(Cause::BrokenRecord, at as u64);
-            }
-            Number::Value { value, used } => {
-                if !suits_place(numbers, i, value) {
-                    return refuse_numbers(Cause::InvalidState, 0);
-                }
-                numbers[i] = value;
-                at += used;
-            }
+        let Some(Number { value, used }) = read_number(&bytes[at..]) else {
+            return Err(Cause::BrokenRecord.at(at as u64));
+        };
+        if !suits_place(numbers, i, value) {
+            return Err(Cause::InvalidState.at(0));
         }
+        numbers[i] = value;
+        at += used;
     }
-    Configuration {
+    Ok(Configuration {
         numbers: numbers,
         used: at,
-        verdict: Verdict::Accepted,
-    }
+    })
 }
 
 // The ledger that a configuration starts.
@@ -113,6 +96,5 @@ pub fn start_ledger(numbers: [u32; NUMBERS]) -> Ledger
 {
     let first = take_receiver(numbers, 1);
     let second = take_receiver(numbers, 1 + RECEIVER_NUMBERS);
-    let created = Ledger::fresh(numbers[0], first, second);
-    created.ledger
+    Ledger::empty(numbers[0], first, second)
 }

@@ -5,4 +5,4 @@ mod configuration;
 mod log;
 
 pub use configuration::{Configuration, read_configuration, start_ledger};
-pub use log::{Consumed, LogReader, LogVerdict, Outcome};
+pub use log::{Consumed, LogReader, LogVerdict};

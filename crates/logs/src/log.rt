@@ -1,15 +1,15 @@
 // The log: its verdict, read in parts. The caller keeps the bytes that a call has not used and puts the next ones behind them.
-ghost use Rattle.std.specs.Prelude.{◌≡◌, ◌+◌, ◌*◌, ◌≤◌, length};
+ghost use Rattle.std.specs.Prelude.{◌≡◌, ◌+◌, ◌*◌, ◌≤◌, length, Some};
 ghost use Rattle.logs.specs.Log.{configuration_at};
 ghost use Rattle.logs.specs.Stream.{max_entries, stopped_at, start_by, beginning, consuming, fresh_reader};
 ghost use Rattle.logs.specs.ConcludingMirror.{concluding, counts_ok, read_on};
 
 use crate::configuration::{read_configuration, start_ledger};
-use cause::{Cause, Verdict};
+use cause::{Cause, Fault};
 use ledger::Ledger;
 
 // The verdict on a log.
-#[derive(Clone, Copy)]
+#[derive(Clone, Copy, Debug, PartialEq, Eq)]
 pub enum LogVerdict {
     Accepted {
         entries: u32,
@@ -21,13 +21,6 @@ pub enum LogVerdict {
     },
 }
 
-// What a call comes to: more bytes are asked for, or the verdict is there.
-#[derive(Clone, Copy)]
-pub enum Outcome {
-    More,
-    Over(LogVerdict),
-}
-
 // A log between two calls: the entries accepted and the bytes used, 0 before the configuration.
 #[derive(Clone, Copy)]
 pub struct LogReader {
@@ -36,12 +29,12 @@ pub struct LogReader {
     pub offset: u64,
 }
 
-// The next state, how many of the bytes at hand are used, and what the call comes to.
+// The next state, how many of the bytes at hand are used, and the verdict, none where more bytes are asked for.
 #[derive(Clone, Copy)]
 pub struct Consumed {
     pub reader: LogReader,
     pub used: usize,
-    pub outcome: Outcome,
+    pub outcome: Option<LogVerdict>,
 }
 
 // The most entries of a log.
@@ -57,40 +50,40 @@ const SHORTEST_ENTRY: u64 = 257;
 const LONGEST_ENTRY: u64 = 261;
 
 // A refusal behind so many entries.
-fn refuse_log(entries: u32, cause: Cause, place: u64) -> Outcome
-    ensures { result ≡ Outcome.Over (LogVerdict.Refused entries cause place) }
+fn refuse_log(entries: u32, fault: Fault) -> Option<LogVerdict>
+    ensures { result ≡ Some (LogVerdict.Refused entries fault.cause fault.place) }
 {
-    Outcome::Over(LogVerdict::Refused {
+    Some(LogVerdict::Refused {
         entries: entries,
-        cause: cause,
-        place: place,
+        cause: fault.cause,
+        place: fault.place,
     })
 }
 
 // What is said behind so many entries and bytes, where the bytes left do not begin with a whole entry, or no more entries may be.
-fn conclude(entries: u32, offset: u64, left: usize, ended: bool) -> Outcome
+fn conclude(entries: u32, offset: u64, left: usize, ended: bool) -> Option<LogVerdict>
     ensures { result ≡ concluding entries offset left ended }
 {
     if left == 0 {
         if ended {
-            return Outcome::Over(LogVerdict::Accepted { entries: entries });
+            return Some(LogVerdict::Accepted { entries: entries });
         }
-        return Outcome::More;
+        return None;
     }
     if MAX_ENTRIES <= entries {
-        return refuse_log(entries, Cause::TooLong, 0);
+        return refuse_log(entries, Cause::TooLong.at(0));
     }
     if ended {
-        return refuse_log(entries, Cause::BrokenRecord, offset);
+        return refuse_log(entries, Cause::BrokenRecord.at(offset));
     }
     if LONGEST_ENTRY <= left as u64 {
-        return refuse_log(entries, Cause::BrokenRecord, offset);
+        return refuse_log(entries, Cause::BrokenRecord.at(offset));
     }
-    Outcome::More
+    None
 }
 
 // A call that stops at byte `at`.
-fn stop_at(at: usize, reader: LogReader, outcome: Outcome) -> Consumed
+fn stop_at(at: usize, reader: LogReader, outcome: Option<LogVerdict>) -> Consumed
     ensures { result ≡ stopped_at at reader outcome }
 {
     Consumed {
@@ -141,7 +134,6 @@ impl LogReader {
             .ledger
             .audit_entries(&bytes[from..], MAX_ENTRIES - self.entries);
         let ledger = run.ledger;
-        let answer = run.answer;
         let at = from + run.used;
         let entries = self.entries + run.accepted;
         let offset = self.offset + run.used as u64;
@@ -150,13 +142,9 @@ impl LogReader {
             entries: entries,
             offset: offset,
         };
-        match answer {
-            Verdict::Refused(cause, place) => stop_at(
-                at,
-                reader,
-                refuse_log(entries, cause, place),
-            ),
-            Verdict::Accepted => stop_at(
+        match run.answer {
+            Err(fault) => stop_at(at, reader, refuse_log(entries, fault)),
+            Ok(()) => stop_at(
                 at,
                 reader,
                 conclude(entries, offset, bytes.len() - at, ended),
@@ -168,11 +156,9 @@ impl LogReader {
     fn configure(self, bytes: &[u8], ended: bool) -> Consumed
         ensures { result ≡ start_by self bytes.now ended (configuration_at bytes.now) }
     {
-        let configuration = read_configuration(bytes);
-        let verdict = configuration.verdict;
-        match verdict {
-            Verdict::Refused(cause, place) => stop_at(0, self, refuse_log(0, cause, place)),
-            Verdict::Accepted => {
+        match read_configuration(bytes) {
+            Err(fault) => stop_at(0, self, refuse_log(0, fault)),
+            Ok(configuration) => {
                 let numbers = configuration.numbers;
                 let used = configuration.used;
                 let ledger = start_ledger(numbers);
@@ -194,7 +180,7 @@ impl LogReader {
             return self.configure(bytes, ended);
         }
         if (bytes.len() as u64) < LONGEST_ENTRY {
-            return stop_at(0, self, Outcome::More);
+            return stop_at(0, self, None);
         }
         self.configure(bytes, ended)
     }
@@ -206,7 +192,7 @@ impl LogReader {
         let entries = self.entries;
         let offset = self.offset;
         if !self.has_valid_counts() {
-            return stop_at(0, self, refuse_log(entries, Cause::InvalidState, 0));
+            return stop_at(0, self, refuse_log(entries, Cause::InvalidState.at(0)));
         }
         if offset == 0 {
             return self.begin(bytes, ended);

@@ -12,9 +12,7 @@ use borrow.Author.Tests.{lt-ltb, eq-eqb, eqb-true}
 use Rattle.lists.specs.Pick.{pick}
 use Rattle.lists.specs.Parts.{IsBytes, join_all}
 use Rattle.lists.proofs.Tests.{cases, and_left, and_right, and_both}
-use Rattle.cause.specs.Checks.{first_fault}
-use Rattle.cause.specs.declared.Verdict.{Verdict}
-use Rattle.cause.specs.declared.Verdict.TheVariants.{Accepted}
+use Rattle.cause.specs.Checks.{first_fault, Verdict, Accepted}
 use Rattle.cause.specs.declared.Cause.TheVariants.{InvalidState}
 use Rattle.cause.proofs.CheckLaws.{both_accepted}
 use Rattle.container.specs.Layout.{Format, format_of}

@@ -1,28 +1,24 @@
 -- The fills of one list, one behind the other: what stands in the room, and that where the first is accepted, all are. Assumes nothing.
 use Prim.Native.Nat.{ℕ, zero, suc, ◌+◌, ◌-◌, ◌*◌, ◌≤◌, ◌<◌}
 use mathlib.Core.Path.{◌≡◌, refl, sym, ap, ◌∙◌, subst}
-use mathlib.Core.Bool.{Bool, true, false, ◌&&◌}
+use mathlib.Core.Bool.{true, false, ◌&&◌}
 use mathlib.Core.List.{List, [], ◌++◌, append_assoc, append-nil}
 use mathlib.Core.Logic.{◌⊎◌, inl, inr, ⊎_elim}
 use native.Mathlib.Omega.{arith}
 use native.Mathlib.Nat.{zero-add}
 use lib.ListN.{length, take, drop, length-append, length-drop}
 use lib.Seq.{drop-drop}
-use lib.Dec.{eqb, ltb}
-use borrow.Author.Tests.{eqb-true, le-ltb}
+use lib.Dec.{eqb}
+use borrow.Author.Tests.{eqb-true}
 use borrow.Rule.Slice.PartMut.{put_mid, put_same}
-use Rattle.lists.specs.Pick.{pick}
 use Rattle.lists.specs.Parts.{put, join_all, IsBytes}
 use Rattle.lists.proofs.Tests.{and_right}
 use Rattle.lists.proofs.PartLaws.{rest_is, length_zero, length_part, length_put, put_middle}
 use Rattle.lists.proofs.PutLaws.{put_none, put_more}
-use Rattle.cause.specs.Checks.{when_accepted}
-use Rattle.cause.specs.declared.Verdict.{Verdict}
-use Rattle.cause.specs.declared.Verdict.TheVariants.{Accepted, Refused}
+use Rattle.cause.specs.Checks.{when_accepted, Verdict, Accepted, Refused}
+use Rattle.std.specs.Prelude.{Ok, Err}
 use Rattle.cause.specs.declared.Cause.{Cause}
 use Rattle.container.specs.Layout.{Format, format_of}
-use Rattle.text.specs.Lines.{refusal_line, answer_of as textAnswer, room_of}
-use Rattle.text.proofs.WriteLaws.{refusal_most}
 use Rattle.writer.specs.Laying.{filled, owes_after, used_of}
 use Rattle.writer.specs.Filling.{tail_of, writer_with, fill_fault, answer_of, filling, fill_bytes}
 use Rattle.round_trip.specs.Calls.{Fills, zero_grant}
@@ -35,7 +31,7 @@ use Rattle.writer.proofs.AnswerLaws.{fill_answer_refused, fill_answer_accepted}
 use Rattle.round_trip.proofs.RoundTrip.{tail_of_law, list_left, box_length}
 use Rattle.writer.proofs.Simulation.{idle, Left}
 use Rattle.round_trip.proofs.Bound.{Going, going_first, going_more, going_fills, left_here, call_accepted}
-use Rattle.pack.specs.Packing.{containers_of, most_containers, max_output, output_of, list_output}
+use Rattle.pack.specs.Packing.{containers_of, most_containers, max_output, output_of, list_output, Written}
 use Rattle.pack.proofs.Containers.{containers_none, containers_more, containers_out, list_checks_accepted}
 
 -- an answer says one thing
@@ -130,37 +126,26 @@ packed_none f l d w e = record {
   standing = inl (refl, e, refl);
 }
 
--- the whole output at the front of the room
-pub record Done (f : ℕ) (l d₀ d : List ℕ) (n : ℕ) : Type 0 where
-  pub end : n ≡ length (list_output f l)
-  pub room : d ≡ put 0 (list_output f l) d₀
-  pub within : n ≤ max_output
-  pub long : length d ≡ length d₀
-
 module _ (f : ℕ) (l d₀ d : List ℕ) (w : Writer) (at to : ℕ) (h : Packed f l d₀ d w at to) where
   -- where no container is to come
-  ended : containers_of h.left (format_of f) (tail_of w) (drop at l) ≡ [] → found f l ≡ Accepted → Done f l d₀ d to
+  ended : containers_of h.left (format_of f) (tail_of w) (drop at l) ≡ [] → found f l ≡ Accepted → Written (list_output f l) d₀ d (Ok to)
   ended e s =
       let all : list_output f l ≡ h.text =
       ap (λ (v : Verdict). output_of v (containers_of most_containers (format_of f) [] l)) s
       ∙ h.rest ∙ ap (λ (x : List (List ℕ)). h.text ++ join_all x) e ∙ append-nil h.text in
       let b = h.bound in
-      record {
-        end = sym (ap length all ∙ h.reached);
-        room = h.room ∙ ap (λ (x : List ℕ). put 0 x d₀) (sym all);
-        within = omega arith;
-        long = h.long;
-      }
+      (sym (ap length all ∙ h.reached), omega arith, h.room ∙ ap (λ (x : List ℕ). put 0 x d₀) (sym all))
 
-  pub packed_out : max_output ≤ to → Done f l d₀ d to
+  pub packed_out : to ≡ max_output → Written (list_output f l) d₀ d (Ok max_output)
   packed_out b =
       let z : h.left ≡ 0 = omega (arith, h.bound) in
-      ended (ap (λ (k : ℕ). containers_of k (format_of f) (tail_of w) (drop at l)) z ∙ containers_out (format_of f) (tail_of w) (drop at l))
-      (⊎_elim (λ a. let z = a.2 in absurd (omega arith)) (λ b. b.0) h.standing)
+      subst (λ (n : ℕ). Written (list_output f l) d₀ d (Ok n)) b
+      (ended (ap (λ (k : ℕ). containers_of k (format_of f) (tail_of w) (drop at l)) z ∙ containers_out (format_of f) (tail_of w) (drop at l))
+      (⊎_elim (λ a. let z = a.2 in absurd (omega arith)) (λ b. b.0) h.standing))
 
   module _ (small : f < 2) (hb : IsBytes l) where
     -- the list is used up and nothing is owed
-    pub packed_done : (eqb w.len 0 && eqb (length l - at) 0) ≡ true → Done f l d₀ d to
+    pub packed_done : (eqb w.len 0 && eqb (length l - at) 0) ≡ true → Written (list_output f l) d₀ d (Ok to)
     packed_done test =
         let owed : (eqb (length (tail_of w)) 0 && eqb (length (drop at l)) 0) ≡ true =
         ap (λ (k : ℕ). eqb k 0 && eqb (length (drop at l)) 0) (sym h.owed) ∙ ap (λ (k : ℕ). eqb w.len 0 && eqb k 0) (length-drop at l)
@@ -230,24 +215,10 @@ module _ (f : ℕ) (l d₀ d : List ℕ) (w : Writer) (at to : ℕ) (h : Packed 
           ap (put_mid to ((to + 256) - to) d) same ∙ put_same to ((to + 256) - to) d ∙ h.room ∙ ap (λ (x : List ℕ). put 0 x d₀) none
           ∙ put_none 0 d₀
 
-      pub packed_refused : (c : Cause) (p : ℕ) → r.answer ≡ answer.Refused c p → (n : ℕ) (e : List ℕ)
-          → n ≡ textAnswer (refusal_line c p) (put_mid to ((to + 256) - to) d d') → e ≡ room_of (refusal_line c p)
-          (put_mid to ((to + 256) - to) d d') → Done f l d₀ e n
-      packed_refused c p q n e en ee =
-          let line = refusal_line c p in
-          let u = unchanged c p q in
-          let large : ltb (length d₀) 64 ≡ false = le-ltb (length d₀) 64 (omega arith) in
-          let out : list_output f l ≡ line = ap (λ (v : Verdict). output_of v (containers_of most_containers (format_of f) [] l))
-          (refused_first c p q).0 in
-          let size : n ≡ length line = en ∙ ap (textAnswer line) u ∙ ap (λ (t : Bool). pick t 0 (length line)) large in
-          let short-line = refusal_most c p in
-          let over : e ≡ put 0 line d₀ = ee ∙ ap (room_of line) u ∙ ap (λ (t : Bool). pick t d₀ (put 0 line d₀)) large in
-          record {
-            end = size ∙ ap length (sym out);
-            room = over ∙ ap (λ (x : List ℕ). put 0 x d₀) (sym out);
-            within = omega arith;
-            long = ap length over ∙ length_put 0 line d₀ (omega arith);
-          }
+      pub packed_refused : (c : Cause) (p : ℕ) → r.answer ≡ answer.Refused c p
+          → Written (list_output f l) d₀ (put_mid to ((to + 256) - to) d d') (Err (record { cause = c; place = p }))
+      packed_refused c p q =
+          (ap (λ (v : Verdict). output_of v (containers_of most_containers (format_of f) [] l)) (refused_first c p q).0, unchanged c p q)
 
       -- ---- a container
 
@@ -339,5 +310,5 @@ module _ (f : ℕ) (l d₀ d : List ℕ) (w : Writer) (at to : ℕ) (h : Packed 
                 standing = inr (going.0, under);
               }
 
-          pub packed_more : Packed f l d₀ (put_mid to ((to + 256) - to) d d') r.writer (at + u) (to + 256)
-          packed_more = by h.left refl
+          pub packed_more : (next : ℕ) → next ≡ to + 256 → Packed f l d₀ (put_mid to ((to + 256) - to) d d') r.writer (at + u) next
+          packed_more next e = rw e (by h.left refl)

@@ -1,120 +1,76 @@
 -- The output for an input by what stands at its front. Assumes nothing.
 use Prim.Native.Nat.{ℕ, ◌-◌, ◌≤◌, ◌<◌}
 use mathlib.Core.Path.{◌≡◌, refl, sym, ap, ◌∙◌}
-use mathlib.Core.Bool.{Bool, true, false}
+use mathlib.Core.Bool.{true, false}
 use mathlib.Core.List.{List, []}
 use mathlib.Core.Logic.{⊎_elim}
 use native.Mathlib.Omega.{arith}
 use lib.ListN.{length, take, drop}
 use lib.Dec.{ltb}
-use borrow.Author.Tests.{ltb-true, lt-ltb, le-ltb}
-use Rattle.lists.specs.Pick.{pick}
-use Rattle.lists.specs.Parts.{put, IsBytes}
-use Rattle.lists.proofs.PartLaws.{rest_is, length_put}
+use borrow.Author.Tests.{ltb-true}
+use Rattle.std.specs.Prelude.{Ok, Err, Option, Some, None, ok_or}
+use Rattle.lists.specs.Parts.{IsBytes}
+use Rattle.lists.proofs.PartLaws.{rest_is}
 use Rattle.lists.proofs.Tests.{cases}
-use Rattle.cause.specs.declared.Verdict.TheVariants.{Accepted, Refused}
-use Rattle.cause.specs.declared.Cause.{Cause}
+use Rattle.cause.specs.declared.Fault.{Fault}
 use Rattle.cause.specs.declared.Cause.TheVariants.{BrokenRecord, InvalidState}
 use Rattle.record.specs.Number.{read_number}
 use Rattle.record.specs.declared.number.Number.{Number}
-use Rattle.record.specs.declared.number.Number.TheVariants.{Broken, Value}
 use Rattle.record.proofs.NumberLaws.{number_inside}
-use Rattle.text.specs.Lines.{refusal_line, answer_of, room_of}
-use Rattle.text.proofs.WriteLaws.{refusal_most}
+use Rattle.text.specs.Lines.{refusal_line}
 use Rattle.writer.specs.Filling.{writer_with, new_writer}
 use Rattle.writer.specs.declared.writer.Writer.{Writer}
-use Rattle.writer.specs.declared.writer.Created.{Created}
-use Rattle.pack.specs.Packing.{max_output, list_output, output_behind, pack_output, pack_length, pack_room}
+use Rattle.pack.specs.Packing.{list_output, output_behind, pack_output, Written}
 
--- what the contract says of a room d₀ that became d
-pub record Packs (l d₀ d : List ℕ) (n : ℕ) : Type 0 where
-  pub end : n ≡ pack_length l (length d₀)
-  pub room : d ≡ pack_room l d₀
-  pub within : n ≤ length d
-  pub long : length d ≡ length d₀
+-- a fault whose line is the output
+faulty : (out d : List ℕ) (found fault : Fault) → out ≡ refusal_line found.cause found.place → found ≡ fault → Written out d d (Err fault)
+faulty out d found fault e same = (e ∙ ap (λ (x : Fault). refusal_line x.cause x.place) same, refl)
 
--- a room that is too small
-pub too_small : (l d : List ℕ) → length d < max_output → Packs l d d 0
-too_small l d h = let t = lt-ltb (length d) max_output h in record { end = rw t; room = rw t; within = omega arith; long = refl }
-
--- an output at the front of a room that is large enough
-packs : (l d₀ d out : List ℕ) (n : ℕ) → max_output ≤ length d₀ → pack_output l ≡ out → length out ≤ max_output → n ≡ length out
-    → d ≡ put 0 out d₀ → Packs l d₀ d n
-packs l d₀ d out n big e few en ed =
-    let t = le-ltb (length d₀) max_output big in
-    let same : length d ≡ length d₀ = ap length ed ∙ length_put 0 out d₀ (omega arith) in
-    record {
-      end = en ∙ ap length (sym e) ∙ sym (ap (λ (b : Bool). pick b 0 (length (pack_output l))) t);
-      room = ed ∙ ap (λ (x : List ℕ). put 0 x d₀) (sym e) ∙ sym (ap (λ (b : Bool). pick b d₀ (put 0 (pack_output l) d₀)) t);
-      within = omega arith;
-      long = same;
-    }
-
--- a line
-line_packs : (l d₀ d : List ℕ) (n : ℕ) (c : Cause) (p : ℕ) → max_output ≤ length d₀ → pack_output l ≡ refusal_line c p
-    → n ≡ answer_of (refusal_line c p) d₀ → d ≡ room_of (refusal_line c p) d₀ → Packs l d₀ d n
-line_packs l d₀ d n c p big e en ed =
-    let t : ltb (length d₀) 64 ≡ false = le-ltb (length d₀) 64 (omega arith) in
-    let few = refusal_most c p in
-    packs l d₀ d (refusal_line c p) n big e (omega arith) (en ∙ ap (λ (b : Bool). pick b 0 (length (refusal_line c p))) t)
-    (ed ∙ ap (λ (b : Bool). pick b d₀ (put 0 (refusal_line c p) d₀)) t)
-
-module _ (l d₀ d : List ℕ) (n : ℕ) (big : max_output ≤ length d₀) (r : Number) (er : r ≡ read_number l) where
-  behind : (k : Number) → r ≡ k → pack_output l ≡ output_behind l k
+module _ (l d : List ℕ) where
+  behind : (r : Option Number) → r ≡ read_number l → pack_output l ≡ output_behind l r
   unfolding pack_output
-  behind k q = ap (output_behind l) (sym er ∙ q)
+  behind r e = ap (output_behind l) (sym e)
 
-  pub no_number : r ≡ Broken → n ≡ answer_of (refusal_line BrokenRecord 0) d₀ → d ≡ room_of (refusal_line BrokenRecord 0) d₀ → Packs l d₀ d n
-  no_number q en ed = line_packs l d₀ d n BrokenRecord 0 big (behind Broken q) en ed
+  -- what is no number
+  pub no_number : (r : Option Number) (at fault : Fault) → r ≡ read_number l → at ≡ record { cause = BrokenRecord; place = 0 } → Err fault ≡ ok_or r at
+      → Written (pack_output l) d d (Err fault)
+  no_number (Some number) at fault er ea e = let z : ◌≡◌ {A = ℕ} 0 1 = cc in absurd (omega arith)
+  no_number None at fault er ea e = let same : at ≡ fault = cc in faulty (pack_output l) d (record { cause = BrokenRecord; place = 0 }) fault (behind None er) (sym ea ∙ same)
 
-  module _ (f u : ℕ) (q : r ≡ Value f u) (o : Created) (eo : o ≡ new_writer f) where
-    verdict : o.verdict ≡ (new_writer f).verdict
-    verdict = ap (λ (x : Created). x.verdict) eo
-
-    format : o.writer ≡ writer_with f []
-    format = ap (λ (x : Created). x.writer) eo
-
-    small : o.verdict ≡ Accepted → ltb f 2 ≡ true
-    small e = ⊎_elim (λ t. t) (λ (t : ltb f 2 ≡ false). absurd (never t)) (cases (ltb f 2))
+  module _ (number : Number) (er : Some number ≡ read_number l) where
+    -- a format that is none
+    pub no_format : (fault : Fault) → Err fault ≡ new_writer number.value → Written (pack_output l) d d (Err fault)
+    no_format fault e = ⊎_elim good bad (cases (ltb number.value 2))
       where
-        never : ltb f 2 ≡ false → ⊥
-        never t = let k = rw t at (sym verdict ∙ e) in let z : ◌≡◌ {A = ℕ} 0 1 = cc in omega arith
+        good : ltb number.value 2 ≡ true → Written (pack_output l) d d (Err fault)
+        good t = let f = rw t at e in let z : ◌≡◌ {A = ℕ} 0 1 = cc in absurd (omega arith)
 
-    no_format : (c : Cause) (p : ℕ) → o.verdict ≡ Refused c p → pack_output l ≡ refusal_line c p
-    no_format c p e =
-        ⊎_elim (λ (t : ltb f 2 ≡ true). absurd (never t)) (λ (t : ltb f 2 ≡ false). other t ∙ same (rw t at (sym verdict ∙ e)))
-        (cases (ltb f 2))
-      where
-        never : ltb f 2 ≡ true → ⊥
-        never t = let k = rw t at (sym verdict ∙ e) in let z : ◌≡◌ {A = ℕ} 0 1 = cc in omega arith
+        bad : ltb number.value 2 ≡ false → Written (pack_output l) d d (Err fault)
+        bad t =
+            let f = rw t at e in
+            let same : record { cause = InvalidState; place = 0 } ≡ fault = cc in
+            faulty (pack_output l) d (record { cause = InvalidState; place = 0 }) fault (behind (Some number) er ∙ rw t) same
 
-        same : Refused InvalidState 0 ≡ Refused c p → refusal_line InvalidState 0 ≡ refusal_line c p
-        same k = let a : InvalidState ≡ c = cc in let b : 0 ≡ p = cc in ap (λ (x : Cause). refusal_line x 0) a ∙ ap (refusal_line c) b
+    module _ (w : Writer) (e : Ok w ≡ new_writer number.value) where
+      small : ltb number.value 2 ≡ true
+      small = ⊎_elim (λ t. t) (λ (t : ltb number.value 2 ≡ false). let f = rw t at e in let z : ◌≡◌ {A = ℕ} 0 1 = cc in absurd (omega arith)) (cases (ltb number.value 2))
 
-        other : ltb f 2 ≡ false → pack_output l ≡ refusal_line InvalidState 0
-        other t = behind (Value f u) q ∙ ap (λ (b : Bool). pick b (list_output f (drop u l)) (refusal_line InvalidState 0)) t
+      writer_is : w ≡ writer_with number.value []
+      writer_is = let f = rw small at e in cc
 
-    pub format_refused : (c : Cause) (p : ℕ) → o.verdict ≡ Refused c p → n ≡ answer_of (refusal_line c p) d₀ → d ≡ room_of (refusal_line c p) d₀
-        → Packs l d₀ d n
-    format_refused c p e en ed = line_packs l d₀ d n c p big (no_format c p e) en ed
+      pub list_asks : (w ≡ writer_with w.format []) × (w.format < 2)
+      list_asks =
+          let s : w.format ≡ number.value = ap (λ (x : Writer). x.format) writer_is in
+          (writer_is ∙ ap (λ (x : ℕ). writer_with x []) (sym s), rw s (ltb-true number.value 2 small))
 
-    pub fresh_asks : o.verdict ≡ Accepted
-        → (o.writer ≡ writer_with o.writer.format []) × (o.writer.format < 2) × (max_output ≤ length d₀)
-    fresh_asks e =
-        let s : o.writer.format ≡ f = ap (λ (w : Writer). w.format) format in
-        (format ∙ ap (λ (x : ℕ). writer_with x []) (sym s), rw s (ltb-true f 2 (small e)), big)
+      -- the list behind the format
+      pub list_is : list_output w.format (take (length l - number.used) (drop number.used l)) ≡ pack_output l
+      list_is =
+          let s : w.format ≡ number.value = ap (λ (x : Writer). x.format) writer_is in
+          ap (λ (k : ℕ). list_output k (take (length l - number.used) (drop number.used l))) s
+          ∙ ap (list_output number.value) (rest_is l number.used)
+          ∙ sym (behind (Some number) er ∙ rw small)
 
-    pub list_packed : o.verdict ≡ Accepted → n ≡ length (list_output o.writer.format (take (length l - u) (drop u l)))
-        → d ≡ put 0 (list_output o.writer.format (take (length l - u) (drop u l))) d₀ → n ≤ max_output → Packs l d₀ d n
-    list_packed e en ed few =
-        let s : o.writer.format ≡ f = ap (λ (w : Writer). w.format) format in
-        let list : list_output o.writer.format (take (length l - u) (drop u l)) ≡ list_output f (drop u l) =
-        ap (λ (k : ℕ). list_output k (take (length l - u) (drop u l))) s ∙ ap (list_output f) (rest_is l u) in
-        let all : pack_output l ≡ list_output f (drop u l) =
-        behind (Value f u) q ∙ ap (λ (t : Bool). pick t (list_output f (drop u l)) (refusal_line InvalidState 0)) (small e) in
-        let size : n ≡ length (list_output f (drop u l)) = en ∙ ap length list in
-        packs l d₀ d (list_output f (drop u l)) n big all (omega arith) size (ed ∙ ap (λ (x : List ℕ). put 0 x d₀) list)
-
--- the number at the front of an input
-pub number_within : (l : List ℕ) (f u : ℕ) (r : Number) → IsBytes l → r ≡ read_number l → r ≡ Value f u → u ≤ length l
-number_within l f u r hb er q = (number_inside l hb f u (sym er ∙ q)).0
+    -- the number at the front of an input
+    pub number_within : IsBytes l → number.used ≤ length l
+    number_within hb = (number_inside l hb number.value number.used (sym er)).0

@@ -4,43 +4,28 @@
 
 mod packing;
 
-ghost use Rattle.std.specs.Prelude.{OnOk};
+ghost use Rattle.std.specs.Prelude.{IfOk, OnOk};
 ghost use Rattle.std.specs.Io.KnownBytes.{Appends};
 ghost use Rattle.pack.specs.Inputs.{Loaded};
 ghost use Rattle.pack.specs.Packing.{pack_output};
 
 use input::{Refill, read_more, report_failure};
 use packing::{MAX_OUTPUT, pack_into};
-use std::io::{Error, Read, Result, Write};
+use std::io::{Read, Result, Write};
 use std::process::ExitCode;
 
 // A number, and one byte more than the longest list.
 const MAX_INPUT: usize = 4102;
 
-// What was read: so many bytes, or a read has failed, for this reason.
-#[derive(Clone, Copy)]
-pub enum Input {
-    Bytes(usize),
-    Failed(Error),
-}
-
-// Reads the input until it ends or the space is full.
-fn read_all<R: Read>(input: &mut R, space: &mut [u8]) -> Input
-    ensures { Loaded space.new result }
+// Reads the input until it ends or the space is full, and answers how many bytes it gave.
+fn read_all<R: Read>(input: &mut R, space: &mut [u8]) -> Result<usize>
+    ensures { IfOk result (Loaded space.new) }
 {
     let mut have = 0;
-    while have < space.len() {
-        let refill = read_more(input, space, 0, have);
-        match refill {
-            Refill::Got(n) => {
-                have = n;
-            }
-            Refill::End => return Input::Bytes(have),
-            Refill::Failed(error) => return Input::Failed(error),
-            Refill::Full => return Input::Bytes(have),
-        }
+    while let Refill::Got(n) = read_more(input, space, 0, have)? {
+        have = n;
     }
-    Input::Bytes(have)
+    Ok(have)
 }
 
 // Writes the output for an input to a writer.
@@ -54,11 +39,12 @@ fn print_packed<W: Write>(output: &mut W, input: &[u8]) -> Result<()>
 
 fn main(rt: HostRuntime) -> ExitCode {
     let mut space = [0u8; MAX_INPUT];
-    match read_all(&mut rt.stdin(), &mut space) {
-        Input::Failed(error) => report_failure(&rt, "pack", "input", error),
-        Input::Bytes(have) => match print_packed(&mut rt.stdout(), &space[0..have]) {
-            Ok(()) => ExitCode::SUCCESS,
-            Err(error) => report_failure(&rt, "pack", "output", error),
-        },
+    let have = match read_all(&mut rt.stdin(), &mut space) {
+        Ok(have) => have,
+        Err(error) => return report_failure(&rt, "pack", "input", error),
+    };
+    match print_packed(&mut rt.stdout(), &space[0..have]) {
+        Ok(()) => ExitCode::SUCCESS,
+        Err(error) => report_failure(&rt, "pack", "output", error),
     }
 }

@@ -1,34 +1,30 @@
 -- What a grant gives to each pool, by four additions, and the grants of a container as a pass over its granules. Assumes nothing.
 use Prim.Native.Nat.{ℕ, ◌+◌, ◌%◌, ◌≤◌, ◌<◌, ◌^◌}
 use mathlib.Core.Path.{◌≡◌, refl, sym, ap, ◌∙◌}
-use mathlib.Core.Bool.{Bool, true, false, ◌&&◌, ◌||◌, not}
+use mathlib.Core.Bool.{Bool, true, false, ◌&&◌, ◌||◌}
 use mathlib.Core.List.{List, [], ◌∷◌}
 use mathlib.Core.Logic.{⊎_elim}
 use native.Mathlib.Omega.{arith}
 use lib.ListN.{length, get_or, replicate}
 use lib.Dec.{eqb, ltb}
-use borrow.Author.Tests.{eq-eqb, ne_eqb, eqb-true, eqb-false, ltb-true, not-true, not-false}
+use borrow.Author.Tests.{eq-eqb, ne_eqb, eqb-true, eqb-false, ltb-true}
 use Rattle.lists.specs.Pick.{pick}
 use Rattle.lists.specs.Parts.{IsBytes}
-use Rattle.lists.proofs.Tests.{cases, and_right}
+use Rattle.lists.proofs.Tests.{cases}
 use Rattle.lists.proofs.PickLaws.{pick_both, pick_by}
 use Rattle.cause.specs.Causes.{header_place}
-use Rattle.cause.specs.Checks.{first_fault}
-use Rattle.cause.specs.declared.Cause.TheVariants.{MissingGrantPool}
-use Rattle.cause.specs.declared.Verdict.{Verdict}
-use Rattle.cause.specs.declared.Verdict.TheVariants.{Accepted}
+use Rattle.cause.specs.Checks.{first_fault, Accepted}
 use Rattle.container.specs.Layout.{start, bit}
-use Rattle.container.specs.Grants.{grant_of}
 use Rattle.container.specs.declared.grant.Grant.{Grant}
 use Rattle.message.specs.Heads.{misc_by, crdt_grant}
-use Rattle.pools.specs.Pools.{grantable, granted_by}
+use Rattle.pools.specs.Pools.{granted_by}
 use Rattle.pools.specs.Rows.{raised}
-use Rattle.pools.specs.TalliesMirror.{first_at, second_at, started_at, grants_at, grant_at, grant_check, crdt_check, crdt_checks, crdt_gives, Tallied}
-use Rattle.pools.specs.declared.tally.Tally.{Tally}
+use Rattle.pools.specs.TalliesMirror.{first_at, second_at, started_at, grants_at, grant_at, grant_check, crdt_check, crdt_checks, crdt_gives}
+use Rattle.pools.specs.Tallies.{tally_of, grants_give}
 use Rattle.pools.specs.declared.receiver.Receiver.{Receiver}
 use Rattle.pools.proofs.RowLaws.{row_at}
-use Rattle.pools.proofs.TallyLaws.{one_more, raised_same, raised_twice, raised_zeros, Counts, zero_counts, counts_raised, one_fits, counts_one}
-use Rattle.pools.proofs.PassLaws.{passed_over, passed, tallied_behind, Walk, Walks, Walking}
+use Rattle.pools.proofs.TallyLaws.{one_more, raised_same, raised_none, raised_twice, raised_zeros, Counts, zero_counts, counts_raised, one_fits, counts_one}
+use Rattle.pools.proofs.PassLaws.{tallied_behind, Walk, Walks, Walking}
 
 -- an amount of pool a, at pool p
 meets : (a n p : ℕ) → p ≡ a → one_more a n p ≡ n
@@ -129,9 +125,6 @@ module _ (n : Grant) (l : List ℕ) (counts : Counts 65535 l) (b : Bytes n) (pla
   low : q < 9
   low = rw eq (pick_both (λ (x : ℕ). x < 9) n.shc (omega arith) (omega arith))
 
-  pub add_req : ((length l ≡ 14) × (q < 14)) × (get_or l q 0 + n.req < 2 ^ 32)
-  add_req = one_fits q n.req counts (omega (arith, low)) (omega (arith, b.req))
-
   module _ {d₁ : List ℕ} (e₁ : d₁ ≡ raised (one_more q n.req) l) where
     counts₁ : Counts (65535 + 255) d₁
     counts₁ = counts_one q n.req 255 counts b.req e₁
@@ -166,46 +159,16 @@ module _ (n : Grant) (l : List ℕ) (counts : Counts 65535 l) (b : Bytes n) (pla
             ∙ raised_twice f₄ (λ p. (f₁ p + f₂ p) + f₃ p) l
             ∙ raised_same (λ p. ((f₁ p + f₂ p) + f₃ p) + f₄ p) (λ p. granted_by p n) l (λ p _. rw (eq, ek) (given_by n p plane h))
 
--- a grant whose pools exist has one for its DAT count
-pub grantable_pooled : (r : Receiver) (n : Grant) → grantable r n ≡ true → dat_pooled n ≡ true
-grantable_pooled r n = weaker n.shc (ltb n.rp r.planes) (eqb n.dat 0) r.push (ltb n.rp 2)
-  where
-    weaker : (a x b c d : Bool) → (a || (x && (b || (c && d)))) ≡ true → (a || (b || d)) ≡ true
-    weaker true x b c d h = refl
-    weaker false x true c d h = refl
-    weaker false x false c d h = and_right c d (and_right x (c && d) h)
-
 -- a CrdtGrant, by a byte 0 that is 0 where nothing starts
 started_misc : (t : Bool) (first second : ℕ) → misc_by (pick t first 0 % 16) second crdt_grant ≡ (t && misc_by (first % 16) second crdt_grant)
 started_misc true first second = refl
 started_misc false first second = refl
 
--- the grant that starts in granule g, if there is one
-module _ (r : Receiver) (c : List ℕ) (w g : ℕ) (l : List ℕ) {first a : ℕ} (ef : first ≡ started_at c w g) (ea : a ≡ start g) {m : Bool} (em : m ≡ misc_by (first % 16) (get_or c (a + 1) 0) crdt_grant) where
-  abbrev Passed : Verdict → List ℕ → Type 0
-  Passed v d =
-      (v ≡ first_fault (crdt_check r c w g ∷ []))
-      × (v ≡ Accepted → d ≡ raised (λ p. pick (grants_at c w g) (granted_by p (grant_at c g)) 0) l)
-
-  abbrev gives : ℕ → ℕ
-  gives p = granted_by p (grant_at c g)
-
-  misc_is : m ≡ grants_at c w g
-  misc_is = em ∙ rw (ef, ea) (started_misc (bit w g) (first_at c g) (second_at c g))
-
-  pub no_grant_law : not m ≡ true → length l ≡ 14 → Passed Accepted l
-  no_grant_law t = passed_over (grants_at c w g) (grantable r (grant_at c g)) MissingGrantPool g gives l (sym misc_is ∙ not-true m t)
-
-  pub some_grant : not m ≡ false → {n : Grant} → n ≡ grant_of (get_or c (a + 2) 0) (get_or c (a + 3) 0) (get_or c (a + 4) 0) (get_or c (a + 5) 0) (get_or c (a + 6) 0)
-      → {v : Verdict} {d : List ℕ} → v ≡ first_fault (grant_check r n g ∷ []) → (v ≡ Accepted → d ≡ raised (λ p. granted_by p n) l) → Passed v d
-  some_grant t {n} en u x =
-      let e : n ≡ grant_at c g = en ∙ ap (λ (i : ℕ). grant_of (get_or c (i + 2) 0) (get_or c (i + 3) 0) (get_or c (i + 4) 0) (get_or c (i + 5) 0) (get_or c (i + 6) 0)) ea in
-      passed (grants_at c w g) (grantable r (grant_at c g)) MissingGrantPool g gives l (sym misc_is ∙ not-false m t)
-      (u ∙ ap (λ (y : Grant). first_fault (grant_check r y g ∷ [])) e)
-      (λ q. x q ∙ ap (λ (y : Grant). raised (λ p. granted_by p y) l) e)
-
-pub form_plane : (a req rsp snp dat : ℕ) {n : Grant} → n ≡ grant_of a req rsp snp dat → n.rp < 8
-form_plane a req rsp snp dat e = omega (arith, ap (λ (x : Grant). x.rp) e)
+-- where no CrdtGrant starts in granule g, nothing is given
+pub none_given : (c : List ℕ) (w g : ℕ) (l : List ℕ) {first a : ℕ} → first ≡ started_at c w g → a ≡ start g → misc_by (first % 16) (get_or c (a + 1) 0) crdt_grant ≡ false
+    → length l ≡ 14 → l ≡ raised (λ p. pick (grants_at c w g) (granted_by p (grant_at c g)) 0) l
+none_given c w g l ef ea n long =
+    let e : grants_at c w g ≡ false = sym (started_misc (bit w g) (first_at c g) (second_at c g)) ∙ (rw (ef, ea) at n) in rw e (raised_none l long)
 
 -- the grants of a container
 module _ (r : Receiver) (c : List ℕ) (w : ℕ) where
@@ -245,8 +208,7 @@ module _ (r : Receiver) (c : List ℕ) (w : ℕ) where
       pub granted_starts : Bytes n → Granting l 0
       granted_starts b = record { within = omega arith; few = counts_raised (λ p. granted_by p n) (zero_counts 0) (given_most n b) el; same = refl; sums = λ p k. refl }
 
-      pub all_granted : {v : Verdict} → v ≡ first_fault (grant_check r n header_place ∷ []) → v ≡ Accepted → {t : Tally} → Tallied (crdt_checks r c w 12 0) gives_all t
-          → Tallied (grant_check r n header_place ∷ crdt_checks r c w 12 0) (λ p. granted_by p n + crdt_gives c w 12 0 p) t
-      all_granted u s =
-          tallied_behind (grant_check r n header_place ∷ []) (crdt_checks r c w 12 0) u s gives_all (λ p. granted_by p n + crdt_gives c w 12 0 p)
+      pub all_granted : Accepted ≡ first_fault (grant_check r n header_place ∷ []) → tally_of (crdt_checks r c w 12 0) gives_all ≡ tally_of (grant_check r n header_place ∷ crdt_checks r c w 12 0) (grants_give n c w)
+      all_granted u =
+          tallied_behind (grant_check r n header_place ∷ []) (crdt_checks r c w 12 0) u gives_all (grants_give n c w)
           (λ p b. ap (λ (x : ℕ). x + crdt_gives c w 12 0 p) (ap (λ (d : List ℕ). get_or d p 0) (el ∙ raised_zeros (λ i. granted_by i n)) ∙ row_at (λ i. granted_by i n) p b))

@@ -1,7 +1,6 @@
 pub mod RowLaws
 pub mod TableLaws
 pub mod PoolLoops
-pub mod ReceiverCases
 pub mod PassLaws
 pub mod TallyLaws
 pub mod TypeLaws

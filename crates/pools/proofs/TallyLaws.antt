@@ -150,18 +150,7 @@ module _ (q : Charges) (l : List ℕ) (long : length l ≡ 14) (small : Small l)
   counts : Counts 65535 l
   counts = record { long = long; most = small }
 
-  pub pay_fits : (a : Charge) → q ≡ One a → AllChargeable q → ((length l ≡ 14) × (a.pool < 14)) × (get_or l a.pool 0 + a.amount < 2 ^ 32)
-  pay_fits a e h = let k : Chargeable a = rw e at h in one_fits a.pool a.amount counts k.pooled (omega (arith, k.little))
-
-  pub pay_one : (a : Charge) → q ≡ One a → (d : List ℕ) → d ≡ raised (one_more a.pool a.amount) l → d ≡ raised (taken q) l
-  pay_one a e d u = u ∙ rw e (raised_same (one_more a.pool a.amount) (taken (One a)) l (λ p b. omega arith))
-
   module _ (a b : Charge) (e : q ≡ Two a b) where
-    pub pay_first : AllChargeable q → ((length l ≡ 14) × (a.pool < 14)) × (get_or l a.pool 0 + a.amount < 2 ^ 32)
-    pay_first h =
-        let k : Chargeable a × Chargeable b = rw e at h in
-        one_fits a.pool a.amount counts k.0.pooled (omega (arith, k.0.little))
-
     module _ (d : List ℕ) (u : d ≡ raised (one_more a.pool a.amount) l) where
       pub pay_second : AllChargeable q → ((length d ≡ 14) × (b.pool < 14)) × (get_or d b.pool 0 + b.amount < 2 ^ 32)
       pay_second h =

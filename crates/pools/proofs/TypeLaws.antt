@@ -31,14 +31,6 @@ one_most t = pick_both (λ (n : ℕ). n ≤ 1) t (omega arith) (omega arith)
 credits_most : (t : ℕ) → credits t ≤ 2
 credits_most t = omega (arith, one_most (leb 1 t && ltb t 10), one_most (eqb t 4))
 
--- each is a pool
-pool_there : (t first : ℕ) → first < 256 → pool_by t first < 14
-pool_there t first b =
-    pick_both (λ (p : ℕ). p < 14) (leb 3 t && ltb t 6) (pick_both (λ (p : ℕ). p < 14) (eqb t 5) (omega arith) (omega arith))
-    (pick_both (λ (p : ℕ). p < 14) (leb 6 t && ltb t 8)
-    (pick_both (λ (p : ℕ). p < 14) (shared_crdt first) (omega arith) (omega arith))
-    (pick_both (λ (p : ℕ). p < 14) (shared_crdt first) (omega arith) (omega arith)))
-
 push_there : (second : ℕ) → push_pool second < 14
 push_there second = pick_both (λ (p : ℕ). p < 14) (eqb (second % 2) 1) (omega arith) (omega arith)
 
@@ -115,9 +107,6 @@ module _ (first second : ℕ) (byte : first < 256) where
 module _ (first second : ℕ) (byte : first < 256) (l : List ℕ) (counts : Counts 65535 l) {q₁ a₁ : ℕ} (e₁ : q₁ ≡ pool_by (first % 16) first) (b₁ : a₁ ≡ credits (first % 16)) where
   few : a₁ ≤ 2
   few = rw b₁ (credits_most (first % 16))
-
-  pub add_first : ((length l ≡ 14) × (q₁ < 14)) × (get_or l q₁ 0 + a₁ < 2 ^ 32)
-  add_first = one_fits q₁ a₁ counts (rw e₁ (pool_there (first % 16) first byte)) (omega (arith, few))
 
   module _ {d₁ : List ℕ} (r₁ : d₁ ≡ raised (one_more q₁ a₁) l) {q₂ a₂ : ℕ} (e₂ : q₂ ≡ push_pool second) (b₂ : a₂ ≡ pushes (first % 16)) where
     pub add_push : ((length d₁ ≡ 14) × (q₂ < 14)) × (get_or d₁ q₂ 0 + a₂ < 2 ^ 32)

@@ -1,18 +1,15 @@
 -- A mirror of the code's shape, not a rule: what is counted of an entry granule by granule, proved equal to the definitions of `Pools`.
-use Rattle.std.specs.Prelude.{ℕ, zero, suc, ◌+◌, ◌%◌, ◌≡◌, Bool, ◌&&◌, ◌||◌, not, List, [], ◌∷◌, get_or, eqb, ltb, leb}
+use Rattle.std.specs.Prelude.{ℕ, zero, suc, ◌+◌, ◌%◌, Bool, ◌&&◌, ◌||◌, not, List, [], ◌∷◌, get_or, eqb, ltb, leb}
 use Rattle.lists.specs.Pick.{pick}
-use Rattle.cause.specs.Checks.{Check, check, first_fault}
+use Rattle.cause.specs.Checks.{Check, check}
 use Rattle.cause.specs.declared.Cause.TheVariants.{MissingPool, MissingGrantPool}
-use Rattle.cause.specs.declared.Verdict.TheVariants.{Accepted}
 use Rattle.container.specs.Layout.{start, bit}
 use Rattle.container.specs.Grants.{grant_of}
 use Rattle.container.specs.declared.grant.Grant.{Grant}
 use Rattle.message.specs.Heads.{misc_by, crdt_grant}
 use Rattle.message.specs.Charges.{req_pool, dat_pool, charges_by, listed}
 use Rattle.pools.specs.Pools.{payable_by, charged_to, grantable, granted_by}
-use Rattle.pools.specs.Rows.{row}
 use Rattle.pools.specs.declared.receiver.Receiver.{Receiver}
-use Rattle.pools.specs.declared.tally.Tally.{Tally}
 
 -- the pool that a message of type t pays, but for push data: RSP or SNP, or the one of DAT or REQ that byte 0 names
 abbrev pub pool_by : ℕ → ℕ → ℕ
@@ -69,8 +66,3 @@ crdt_checks r c w (suc k) g = crdt_check r c w g ∷ crdt_checks r c w k (g + 1)
 unfoldable pub crdt_gives : List ℕ → ℕ → ℕ → ℕ → ℕ → ℕ
 crdt_gives c w zero g p = 0
 crdt_gives c w (suc k) g p = pick (grants_at c w g) (granted_by p (grant_at c g)) 0 + crdt_gives c w k (g + 1) p
-
--- what a tally gives: the first fault of its checks, and where there is none, the count of each pool
-pub record Tallied (checks : List Check) (f : ℕ → ℕ) (r : Tally) : Type 0 where
-  pub verdict : r.verdict ≡ first_fault checks
-  pub counts : r.verdict ≡ Accepted → r.counts ≡ row f 14 0

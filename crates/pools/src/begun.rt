@@ -1,15 +1,14 @@
 // The messages that start in an entry: their pools (cause 14), and what they pay.
 ghost use Rattle.std.specs.Prelude.{◌≡◌, [], ◌∷◌, ◌<◌, length};
-ghost use Rattle.cause.specs.Checks.{first_fault};
-ghost use Rattle.cause.specs.declared.Verdict.TheVariants.{Accepted};
+ghost use Rattle.cause.specs.Checks.{first_fault, Accepted};
 ghost use Rattle.pools.specs.Rows.{Small, raised};
-ghost use Rattle.pools.specs.TalliesMirror.{start_check, starts_checks, paid_at, starts_pay, Tallied};
-ghost use Rattle.pools.specs.Tallies.{begun_tally};
+ghost use Rattle.pools.specs.TalliesMirror.{start_check, starts_checks, paid_at, starts_pay};
+ghost use Rattle.pools.specs.Tallies.{tally_of, begun_tally};
 
 use crate::receiver::Receiver;
 use crate::table::ROW;
-use crate::tally::{Tally, add_charges, read_start, refuse_tally};
-use cause::{Cause, Verdict};
+use crate::tally::{add_charges, read_start};
+use cause::{Cause, Fault, Verdict};
 use container::{CONTAINER, GRANULES, locate_granule};
 
 // What starts in granule g, if anything: judged, and its payment added.
@@ -28,49 +27,30 @@ fn charge_granule(
     let byte0 = read_start(container, msgstart, g);
     let byte1 = container[locate_granule(g) + 1];
     if !receiver.is_payable(byte0 % 16, byte0, byte1) {
-        return Verdict::Refused(Cause::MissingPool, g as u64);
+        return Err(Cause::MissingPool.at(g as u64));
     }
     add_charges(counts, byte0, byte1);
-    Verdict::Accepted
+    Ok(())
 }
 
 // The messages that start in a container of 256 bytes, in granule order.
-fn walk_begun(receiver: Receiver, msgstart: u16, container: &[u8]) -> Tally
+fn walk_begun(receiver: Receiver, msgstart: u16, container: &[u8]) -> Result<[u32; ROW], Fault>
     requires { length container.now ≡ 256 }
-    ensures { Tallied (starts_checks receiver container.now msgstart 12 0) (starts_pay container.now msgstart 12 0) result }
+    ensures { result ≡ tally_of (starts_checks receiver container.now msgstart 12 0) (starts_pay container.now msgstart 12 0) }
 {
     let mut counts = [0u32; ROW];
-    let mut g: u8 = 0;
-    while g < GRANULES {
-        let verdict = charge_granule(receiver, msgstart, container, g, &mut counts);
-        match verdict {
-            Verdict::Refused(_, _) => {
-                return Tally {
-                    verdict: verdict,
-                    counts: counts,
-                };
-            }
-            Verdict::Accepted => {}
-        }
-        g += 1;
+    for g in 0..GRANULES {
+        charge_granule(receiver, msgstart, container, g, &mut counts)?;
     }
-    Tally {
-        verdict: Verdict::Accepted,
-        counts: counts,
-    }
+    Ok(counts)
 }
 
 // What the messages pay that start in a container by a MsgStart, counted by pool: 1, then 14 in granule order.
-pub fn tally_begun(receiver: Receiver, msgstart: u16, container: &[u8]) -> Tally
+pub fn tally_begun(receiver: Receiver, msgstart: u16, container: &[u8]) -> Result<[u32; ROW], Fault>
     ensures { result ≡ begun_tally receiver container.now msgstart }
 {
     if container.len() != CONTAINER {
-        return refuse_tally(Cause::ContainerLength, 0);
+        return Err(Cause::ContainerLength.at(0));
     }
-    let tally = walk_begun(receiver, msgstart, container);
-    let verdict = tally.verdict;
-    if let Verdict::Refused(cause, place) = verdict {
-        return refuse_tally(cause, place);
-    }
-    tally
+    walk_begun(receiver, msgstart, container)
 }

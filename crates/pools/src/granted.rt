@@ -1,18 +1,17 @@
 // The grants of an entry: their pools (cause 21), and what they give.
 ghost use Rattle.std.specs.Prelude.{◌≡◌, true, ◌||◌, [], ◌∷◌, ◌+◌, ◌<◌, eqb, ltb, length};
 ghost use Rattle.lists.specs.Pick.{pick};
-ghost use Rattle.cause.specs.Checks.{first_fault};
-ghost use Rattle.cause.specs.declared.Verdict.TheVariants.{Accepted};
+ghost use Rattle.cause.specs.Checks.{first_fault, Accepted};
 ghost use Rattle.pools.specs.Pools.{granted_by};
 ghost use Rattle.pools.specs.Rows.{Small, raised};
-ghost use Rattle.pools.specs.TalliesMirror.{grants_at, grant_at, grant_check, crdt_check, crdt_checks, Tallied};
-ghost use Rattle.pools.specs.Tallies.{grants_give, granted_tally};
+ghost use Rattle.pools.specs.TalliesMirror.{grants_at, grant_at, grant_check, crdt_check, crdt_checks};
+ghost use Rattle.pools.specs.Tallies.{tally_of, grants_give, granted_tally};
 
 use crate::kinds::Credits;
 use crate::receiver::Receiver;
 use crate::table::ROW;
-use crate::tally::{Tally, add_count, read_start, refuse_tally};
-use cause::{Cause, HEADER_PLACE, Verdict};
+use crate::tally::{add_count, read_start};
+use cause::{Cause, Fault, HEADER_PLACE, Verdict};
 use container::{CONTAINER, GRANULES, Grant, decode_grant, locate_granule};
 use message::{
     CRDT_GRANT, DATA_DAT, PUSH_DAT, REQ_PLANE_0, RSP, SHARED_DAT, SHARED_REQ, SNP, is_misc,
@@ -62,10 +61,10 @@ fn take_grant(receiver: Receiver, grant: Grant, place: u64, counts: &mut [u32]) 
     ensures counts { result ≡ Accepted → counts.new ≡ raised (λ p. granted_by p grant) counts.old }
 {
     if !receiver.is_grantable(grant) {
-        return Verdict::Refused(Cause::MissingGrantPool, place);
+        return Err(Cause::MissingGrantPool.at(place));
     }
     add_grant(grant, counts);
-    Verdict::Accepted
+    Ok(())
 }
 
 // The CrdtGrant that starts in granule g, if there is one.
@@ -84,7 +83,7 @@ fn grant_granule(
     let a = locate_granule(g);
     let byte0 = read_start(container, msgstart, g);
     if !is_misc(byte0 % 16, container[a + 1], CRDT_GRANT) {
-        return Verdict::Accepted;
+        return Ok(());
     }
     let grant = decode_grant(
         container[a + 2],
@@ -97,52 +96,37 @@ fn grant_granule(
 }
 
 // The grants of a container of 256 bytes: the header's, then the CrdtGrants in granule order.
-fn walk_granted(receiver: Receiver, grant: Grant, msgstart: u16, container: &[u8]) -> Tally
+fn walk_granted(
+    receiver: Receiver,
+    grant: Grant,
+    msgstart: u16,
+    container: &[u8],
+) -> Result<[u32; ROW], Fault>
     requires { (length container.now ≡ 256) × (grant.rp < 8) }
-    ensures { Tallied (grant_check receiver grant 12 ∷ crdt_checks receiver container.now msgstart 12 0) (grants_give grant container.now msgstart) result }
+    ensures { result ≡ tally_of (grant_check receiver grant 12 ∷ crdt_checks receiver container.now msgstart 12 0) (grants_give grant container.now msgstart) }
 {
     let mut counts = [0u32; ROW];
-    let header = take_grant(receiver, grant, HEADER_PLACE, &mut counts);
-    if let Verdict::Refused(_, _) = header {
-        return Tally {
-            verdict: header,
-            counts: counts,
-        };
+    take_grant(receiver, grant, HEADER_PLACE, &mut counts)?;
+    for g in 0..GRANULES {
+        grant_granule(receiver, msgstart, container, g, &mut counts)?;
     }
-    let mut g: u8 = 0;
-    while g < GRANULES {
-        let verdict = grant_granule(receiver, msgstart, container, g, &mut counts);
-        match verdict {
-            Verdict::Refused(_, _) => {
-                return Tally {
-                    verdict: verdict,
-                    counts: counts,
-                };
-            }
-            Verdict::Accepted => {}
-        }
-        g += 1;
-    }
-    Tally {
-        verdict: Verdict::Accepted,
-        counts: counts,
-    }
+    Ok(counts)
 }
 
 // What the header's grant and the CrdtGrants that start in a container by a MsgStart give, counted by pool: 1, 4, then 21 in this order.
-pub fn tally_granted(receiver: Receiver, grant: Grant, msgstart: u16, container: &[u8]) -> Tally
+pub fn tally_granted(
+    receiver: Receiver,
+    grant: Grant,
+    msgstart: u16,
+    container: &[u8],
+) -> Result<[u32; ROW], Fault>
     ensures { result ≡ granted_tally receiver grant container.now msgstart }
 {
     if container.len() != CONTAINER {
-        return refuse_tally(Cause::ContainerLength, 0);
+        return Err(Cause::ContainerLength.at(0));
     }
     if 8 <= grant.rp {
-        return refuse_tally(Cause::HeaderGrantForm, 0);
+        return Err(Cause::HeaderGrantForm.at(0));
     }
-    let tally = walk_granted(receiver, grant, msgstart, container);
-    let verdict = tally.verdict;
-    if let Verdict::Refused(cause, place) = verdict {
-        return refuse_tally(cause, place);
-    }
-    tally
+    walk_granted(receiver, grant, msgstart, container)
 }

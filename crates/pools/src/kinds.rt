@@ -4,11 +4,11 @@ ghost use Rattle.std.specs.Prelude.{◌≡◌, ◌+◌, ◌-◌, ◌<◌, ◌^�
 use crate::table::ROW;
 
 // Credits of one pool.
-#[derive(Clone, Copy)]
+#[derive(Clone, Copy, Debug, PartialEq, Eq, PartialOrd, Ord)]
 pub struct Credits(pub u32);
 
 // Slots of one pool.
-#[derive(Clone, Copy)]
+#[derive(Clone, Copy, Debug, PartialEq, Eq, PartialOrd, Ord)]
 pub struct Slots(pub u32);
 
 impl Credits {
@@ -16,7 +16,7 @@ impl Credits {
     pub fn cover(self, charge: Credits) -> bool
         ensures { result ≡ leb charge.0 self.0 }
     {
-        charge.0 <= self.0
+        charge <= self
     }
 
     // These credits and more of them.
@@ -31,20 +31,14 @@ impl Credits {
     pub fn raise(self, more: Credits) -> Credits
         ensures { result ≡ record { 0 = min (self.0 + more.0) 4294967295 } }
     {
-        if u32::MAX - self.0 < more.0 {
-            return Credits(u32::MAX);
-        }
-        self.add(more)
+        Credits(self.0.saturating_add(more.0))
     }
 
     // What is left of these credits behind a charge, none where it is more.
     pub fn spend(self, charge: Credits) -> Credits
         ensures { result ≡ record { 0 = self.0 - charge.0 } }
     {
-        if self.0 < charge.0 {
-            return Credits(0);
-        }
-        Credits(self.0 - charge.0)
+        Credits(self.0.saturating_sub(charge.0))
     }
 
     // The slots that these credits stand for: the one way from one kind to the other.
@@ -60,7 +54,7 @@ impl Slots {
     pub fn equal(self, other: Slots) -> bool
         ensures { result ≡ eqb self.0 other.0 }
     {
-        self.0 == other.0
+        self == other
     }
 }
 

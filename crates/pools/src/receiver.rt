@@ -5,10 +5,10 @@ ghost use Rattle.pools.specs.Pools.{has_pool, capacity_ok, receiver_ok, payable_
 
 use crate::table::ROW;
 use container::Grant;
-use message::{Class, classify_message};
+use message::{Class, DATA_DAT, PUSH_DAT, RSP, classify_message};
 
 // The pools.
-pub const POOLS: u32 = 14;
+pub const POOLS: u32 = ROW as u32;
 
 // The most planes of a receiver, and the largest capacity of a pool.
 pub const MAX_PLANES: u32 = 8;
@@ -16,14 +16,14 @@ pub const MAX_PLANES: u32 = 8;
 pub const MAX_CAPACITY: u32 = 1023;
 
 // The pools behind those of REQ, and the dedicated DAT pools: of DataS and DataL, and of push data.
-const RSP_POOL: u32 = 9;
+const RSP_POOL: u32 = RSP as u32;
 
-const DATA_POOL: u32 = 12;
+const DATA_POOL: u32 = DATA_DAT as u32;
 
-const PUSH_POOL: u32 = 13;
+const PUSH_POOL: u32 = PUSH_DAT as u32;
 
 // Its planes, whether it takes push data, and the capacities of its pools.
-#[derive(Clone, Copy)]
+#[derive(Clone, Copy, Debug, PartialEq, Eq)]
 pub struct Receiver {
     pub planes: u32,
     pub push: bool,
@@ -35,19 +35,13 @@ impl Receiver {
     pub fn has_pool(self, pool: u32) -> bool
         ensures { result ≡ has_pool self pool }
     {
-        if pool == DATA_POOL {
-            return self.push;
+        match pool {
+            0..RSP_POOL => pool <= self.planes,
+            RSP_POOL..DATA_POOL => true,
+            DATA_POOL => self.push,
+            PUSH_POOL => self.push && 2 <= self.planes,
+            _ => false,
         }
-        if pool == PUSH_POOL {
-            if self.push {
-                return 2 <= self.planes;
-            }
-            return false;
-        }
-        if pool < RSP_POOL {
-            return pool <= self.planes;
-        }
-        pool < DATA_POOL
     }
 
     // Whether the capacity of a pool is at most 1,023, and 0 where the pool is missing.
@@ -56,33 +50,14 @@ impl Receiver {
         ensures { result ≡ capacity_ok self pool }
     {
         let capacity = self.capacities[pool as usize];
-        if MAX_CAPACITY < capacity {
-            return false;
-        }
-        if capacity == 0 {
-            return true;
-        }
-        self.has_pool(pool)
+        capacity <= MAX_CAPACITY && (capacity == 0 || self.has_pool(pool))
     }
 
     // Whether the planes are 1 to 8 and every capacity is right.
     pub fn is_valid(self) -> bool
         ensures { result ≡ receiver_ok self }
     {
-        if self.planes < 1 {
-            return false;
-        }
-        if MAX_PLANES < self.planes {
-            return false;
-        }
-        let mut pool: u32 = 0;
-        while pool < POOLS {
-            if !self.keeps_capacity(pool) {
-                return false;
-            }
-            pool += 1;
-        }
-        true
+        (1..=MAX_PLANES).contains(&self.planes) && (0..POOLS).all(|pool| self.keeps_capacity(pool))
     }
 
     // Whether the REQ plane that byte 0 of a message names exists.
@@ -96,55 +71,32 @@ impl Receiver {
     fn has_data_pool(self, byte0: u8) -> bool
         ensures { result ≡ (shared_crdt byte0 || self.push) }
     {
-        if self.push {
-            return true;
-        }
-        byte0 / 16 % 2 == 1
+        self.push || byte0 / 16 % 2 == 1
     }
 
     // Whether the DAT pool of push data exists, by byte 1.
     fn has_push_pool(self, byte1: u8) -> bool
         ensures { result ≡ (self.push && (eqb (byte1 % 2) 1 || has_pool self 13)) }
     {
-        if self.push {
-            if 2 <= self.planes {
-                return true;
-            }
-            return byte1 % 2 == 1;
-        }
-        false
+        self.push && (2 <= self.planes || byte1 % 2 == 1)
     }
 
     // Whether every pool that a message with this byte 0 may need exists.
     fn has_every_pool(self, byte0: u8) -> bool
         ensures { result ≡ (self.push && (leb 2 self.planes && ltb (res_plane byte0) self.planes)) }
     {
-        if self.push {
-            if 2 <= self.planes {
-                return self.has_plane(byte0);
-            }
-        }
-        false
+        self.push && 2 <= self.planes && self.has_plane(byte0)
     }
 
     // Whether the pools of a message exist, by the class of its type.
     fn has_class_pools(self, msgtype: u8, byte0: u8, byte1: u8) -> bool
         ensures { result ≡ payable_by self msgtype byte0 byte1 }
     {
-        let class = classify_message(msgtype);
-        match class {
-            Class::Unknown => true,
+        match classify_message(msgtype) {
             Class::Request => self.has_plane(byte0),
-            Class::Response => true,
-            Class::Snoop => true,
             Class::Data => self.has_data_pool(byte0),
-            Class::RequestData => {
-                if self.has_plane(byte0) {
-                    return self.has_push_pool(byte1);
-                }
-                false
-            }
-            Class::Misc => true,
+            Class::RequestData => self.has_plane(byte0) && self.has_push_pool(byte1),
+            Class::Unknown | Class::Response | Class::Snoop | Class::Misc => true,
         }
     }
 
@@ -152,28 +104,14 @@ impl Receiver {
     pub fn is_payable(self, msgtype: u8, byte0: u8, byte1: u8) -> bool
         ensures { result ≡ payable_by self msgtype byte0 byte1 }
     {
-        if self.has_every_pool(byte0) {
-            return true;
-        }
-        self.has_class_pools(msgtype, byte0, byte1)
+        self.has_every_pool(byte0) || self.has_class_pools(msgtype, byte0, byte1)
     }
 
     // Whether the pools of a grant exist.
     pub fn is_grantable(self, grant: Grant) -> bool
         ensures { result ≡ grantable self grant }
     {
-        if grant.shc {
-            return true;
-        }
-        if self.planes <= grant.rp as u32 {
-            return false;
-        }
-        if grant.dat == 0 {
-            return true;
-        }
-        if 2 <= grant.rp {
-            return false;
-        }
-        self.push
+        let has_plane = (grant.rp as u32) < self.planes;
+        grant.shc || has_plane && (grant.dat == 0 || self.push && grant.rp < 2)
     }
 }

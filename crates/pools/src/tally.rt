@@ -1,6 +1,5 @@
 // Counts by pool, and how they grow.
 ghost use Rattle.std.specs.Prelude.{◌≡◌, ◌+◌, ◌%◌, ◌<◌, ◌^◌, ◌&&◌, eqb, ltb, leb, length, get_or, replicate};
-ghost use Rattle.cause.specs.declared.Verdict.TheVariants.{Refused};
 ghost use Rattle.lists.specs.Pick.{pick};
 ghost use Rattle.message.specs.Charges.{req_pool, dat_pool, listed, charges_by, charges};
 ghost use Rattle.pools.specs.Pools.{charged_to};
@@ -9,30 +8,12 @@ ghost use Rattle.pools.specs.TalliesMirror.{pool_by, started_at};
 
 use crate::kinds::{Credits, claim_row};
 use crate::table::ROW;
-use cause::{Cause, Verdict};
 use container::{locate_granule, start_bit};
 use message::{
     Charges, DATA_L, DATA_S, REQ_S, RESP, RESP2, RSP, SNOOP, SNP, WR_REQ_DATA_L, WR_REQ_DATA_S,
     charge_message, choose_dat, choose_push, choose_req,
 };
 use slices::byte_at;
-
-// The first fault, and the counts by pool.
-#[derive(Clone, Copy)]
-pub struct Tally {
-    pub verdict: Verdict,
-    pub counts: [u32; ROW],
-}
-
-// A refusal: nothing is counted.
-pub(crate) fn refuse_tally(cause: Cause, place: u64) -> Tally
-    ensures { result ≡ record { verdict = Refused cause place; counts = replicate 14 0 } }
-{
-    Tally {
-        verdict: Verdict::Refused(cause, place),
-        counts: [0u32; ROW],
-    }
-}
 
 // Adds to the count of one pool.
 pub(crate) fn add_count(counts: &mut [u32], pool: u8, amount: Credits)

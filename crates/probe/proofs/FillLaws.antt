@@ -11,11 +11,9 @@ use borrow.Author.Tests.{eq-eqb, ne_eqb, leb-true, lt-ltb, le-ltb}
 use Rattle.lists.proofs.PickLaws.{pick_by}
 use Rattle.lists.proofs.Fill.{put_whole}
 use Rattle.slices.proofs.CopyLaws.{copied_into, copied_whole}
-use Rattle.cause.specs.Checks.{first_fault, when_accepted, or_else}
+use Rattle.cause.specs.Checks.{first_fault, when_accepted, or_else, Verdict, Accepted, Refused}
 use Rattle.cause.specs.Causes.{cause_number}
 use Rattle.cause.specs.declared.Cause.{Cause}
-use Rattle.cause.specs.declared.Verdict.{Verdict}
-use Rattle.cause.specs.declared.Verdict.TheVariants.{Accepted, Refused}
 use Rattle.cause.proofs.CauseLaws.{number_most}
 use Rattle.cause.proofs.CheckLaws.{accepted_pass}
 use Rattle.container.specs.Layout.{format_of}
@@ -36,6 +34,8 @@ use Rattle.writer.proofs.StateCases.{Callable, fill_callable}
 use Rattle.writer.proofs.SaneLaws.{sane_at}
 use Rattle.writer.proofs.HoldLaws.{owed_length, held_owes, held_used}
 use Rattle.probe.specs.Fill.{grant_from, writer_from, answer_code, Small, sized, asked, fill_code, fill_tail, fill_container}
+use Rattle.std.specs.Prelude.{Ok, Err}
+use Rattle.cause.proofs.FaultLaws.{refused_at}
 
 -- ---- a list copied over another of the same length
 
@@ -52,7 +52,7 @@ place_from (suc k) l at c p h e = by (first_of (drop at l)) refl e (λ next b f.
     by : (r : First) → first_of (drop at l) ≡ r → onward r at (λ next. fault_from k l next) ≡ Refused c p
         → ((next : ℕ) → next ≤ length l → fault_from k l next ≡ Refused c p → p ≤ length l) → p ≤ length l
     by Empty q v ih = let z : ◌≡◌ {A = ℕ} 0 1 = cc in absurd (omega arith)
-    by Bad q v ih = let ep : at ≡ p = cc in omega arith
+    by Bad q v ih = let ep = refused_at _ _ _ _ v in omega arith
     by (Whole start end) q v ih =
         let w = first_within (drop at l) start end q in let n = length-drop at l in ih (at + end) (omega arith) v
 
@@ -68,7 +68,7 @@ AtZero c p v = v ≡ Refused c p → p ≡ 0
 
 refused_zero : (c : Cause) (p : ℕ) (k : Cause) → AtZero c p (Refused k 0)
 unfolding AtZero
-refused_zero c p k e = let z : 0 ≡ p = cc in sym z
+refused_zero c p k e = sym (refused_at _ _ _ _ e)
 
 accepted_zero : (c : Cause) (p : ℕ) → AtZero c p Accepted
 unfolding AtZero
@@ -95,9 +95,9 @@ unfolding fill_fault AtZero
 fault_place w l n size c p e = by (first_fault (call_checks w (length l) n size)) refl e
   where
     by : (v : Verdict) → first_fault (call_checks w (length l) n size) ≡ v → or_else v (list_fault l) ≡ Refused c p → p ≤ 4096
-    by Accepted q f =
+    by (Ok _) q f =
         let short = call_short w (length l) n size q in let place = list_place l c p f in omega arith
-    by (Refused a b) q f = let z : p ≡ 0 = call_zero w (length l) n size c p (q ∙ f) in omega arith
+    by (Err fault) q f = let z : p ≡ 0 = call_zero w (length l) n size c p (q ∙ f) in omega arith
 
 -- an accepted fill: few bytes used, and few owed
 module _ (w : Writer) (l : List ℕ) (n : Grant) (size : ℕ) (long : length w.tail ≡ 100) (e : fill_fault w l n size ≡ Accepted) where
@@ -130,8 +130,8 @@ module _ (w : Writer) (l : List ℕ) (n : Grant) (size : ℕ) (long : length w.t
 module _ (w : Writer) (l : List ℕ) (n : Grant) (size : ℕ) (long : length w.tail ≡ 100) where
   small_by : (v : Verdict) → fill_fault w l n size ≡ v
       → Small (answer_of v (used_of (format_of w.format) n (tail_of w) l)) (when_accepted v (writer_with w.format (owes_after (format_of w.format) n (tail_of w) l)) w).len
-  small_by Accepted e = (used_low w l n size long e, owes_low w l n size long e)
-  small_by (Refused c p) e = fault_place w l n size c p e
+  small_by (Ok _) e = (used_low w l n size long e, owes_low w l n size long e)
+  small_by (Err fault) e = fault_place w l n size fault.cause fault.place e
 
   fill_small : Small (filling w l n size).answer (filling w l n size).writer.len
   unfolding filling

@@ -7,17 +7,17 @@ use Rattle.cause.specs.Causes.{cause_number}
 use Rattle.cause.specs.declared.Cause.{Cause}
 use Rattle.cause.proofs.CauseLaws.{number_most}
 use Rattle.container.specs.declared.grant.Grant.{Grant}
-use Rattle.reader.specs.Reading.{reader_with, new_reader, judging}
-use Rattle.reader.specs.declared.reader.Created.{Created}
+use Rattle.reader.specs.Reading.{reader_with, judging}
+use Rattle.reader.specs.declared.reader.Reader.{Reader}
 use Rattle.reader.specs.declared.reader.Judged.{Judged}
 use Rattle.reader.specs.declared.reader.JudgeAnswer.TheVariants.{Accepted, Refused}
 use Rattle.reader.proofs.PlaceLaws.{judged_place}
 use Rattle.probe.specs.Judge.{code_of, judge_code}
 
 -- the judging from a fresh state
-module _ (f : ℕ) (c : List ℕ) (o : Created) (eo : o ≡ new_reader f) (r : Judged) (er : r ≡ judging o.reader c) where
+module _ (f : ℕ) (c : List ℕ) (o : Reader) (eo : o ≡ reader_with f []) (r : Judged) (er : r ≡ judging o c) where
   same : r.answer ≡ (judging (reader_with f []) c).answer
-  same = ap (λ (x : Judged). x.answer) (er ∙ ap (λ (x : Created). judging x.reader c) eo)
+  same = ap (λ (x : Judged). x.answer) (er ∙ ap (λ (x : Reader). judging x c) eo)
 
   pub accepted_code : (g : Grant) (w : ℕ) → r.answer ≡ Accepted g w → 0 ≡ judge_code f c
   unfolding judge_code

@@ -18,15 +18,8 @@ use writer::{Answer, Writer};
 pub fn c2c_judge(format: u32, container: &[u8]) -> u32
     ensures { result ≡ judge_code format container.now }
 {
-    let created = Reader::fresh(format);
-    let reader = created.reader;
-    let judged = reader.judge(container);
-    let answer = judged.answer;
-    match answer {
-        JudgeAnswer::Accepted {
-            grant: _,
-            msgstart: _,
-        } => 0,
+    match Reader::empty(format).judge(container).answer {
+        JudgeAnswer::Accepted { .. } => 0,
         JudgeAnswer::Refused { cause, place } => number_cause(cause) * 65536 + place as u32,
     }
 }

@@ -1,18 +1,17 @@
 -- Answers by verdicts: what a refusal and an acceptance say of the checks, and what the checks say of them. Assumes nothing.
 use Prim.Native.Nat.{ℕ, ◌≤◌, ◌<◌}
 use mathlib.Core.Path.{◌≡◌, refl, sym, ap, ◌∙◌}
-use mathlib.Core.Bool.{true, false}
+use mathlib.Core.Bool.{true}
 use mathlib.Core.List.{List, ◌∷◌}
 use native.Mathlib.Omega.{arith}
 use lib.ListN.{length}
 use lib.Dec.{eqb, leb}
 use borrow.Author.Tests.{le-leb, lt-leb, eq-eqb, eqb-true}
 use Rattle.lists.specs.Parts.{put}
-use Rattle.cause.specs.Checks.{check, first_fault, when_accepted, or_else}
+use Rattle.cause.specs.Checks.{check, first_fault, when_accepted, given, or_else, Verdict, Accepted, Refused}
 use Rattle.cause.specs.declared.Cause.{Cause}
-use Rattle.cause.specs.declared.Cause.TheVariants.{ContainerLength, RoomTooSmall, InvalidState}
-use Rattle.cause.specs.declared.Verdict.{Verdict}
-use Rattle.cause.specs.declared.Verdict.TheVariants.{Accepted, Refused}
+use Rattle.cause.specs.declared.Fault.{Fault}
+use Rattle.cause.specs.declared.Cause.TheVariants.{RoomTooSmall}
 use Rattle.cause.proofs.CheckLaws.{first_append, accepted_pass}
 use Rattle.container.specs.Layout.{format_of, msg_start}
 use Rattle.container.specs.Grants.{header_grant}
@@ -23,30 +22,35 @@ use Rattle.reader.specs.declared.reader.Answer.TheVariants as answer
 use Rattle.reader.specs.declared.reader.Step.{Step}
 use Rattle.reader.specs.declared.reader.JudgeAnswer.TheVariants as judge
 use Rattle.reader.specs.declared.reader.Judged.{Judged}
+use Rattle.std.specs.Prelude.{Ok, Err}
+
+-- ---- from what is given to its verdict
+
+pub given_fault : {A : Type 0} (v : Verdict) (a : A) {fault : Fault} → given v a ≡ Err fault → v ≡ Err fault
+given_fault (Ok _) a e = let z : ◌≡◌ {A = ℕ} 0 1 = cc in absurd (omega arith)
+given_fault (Err other) a {fault} e = let same : other ≡ fault = cc in ap Err same
+
+pub given_fine : {A : Type 0} (v : Verdict) (a : A) {b : A} → given v a ≡ Ok b → (v ≡ Accepted) × (b ≡ a)
+given_fine (Ok _) a e = (refl, cc)
+given_fine (Err fault) a e = let z : ◌≡◌ {A = ℕ} 0 1 = cc in absurd (omega arith)
 
 -- ---- from an answer to its verdict
 
 pub read_answer_refused : (v : Verdict) (n : ℕ) (g : Grant) (k : Cause) (p : ℕ) → answer_of v n g ≡ answer.Refused k p → v ≡ Refused k p
-read_answer_refused Accepted n g k p e = let z : ◌≡◌ {A = ℕ} 0 1 = cc in absurd (omega arith)
-read_answer_refused (Refused a b) n g k p e = cc
+read_answer_refused (Ok _) n g k p e = let z : ◌≡◌ {A = ℕ} 0 1 = cc in absurd (omega arith)
+read_answer_refused (Err fault) n g k p e = let same : fault.cause ≡ k = cc in let there : fault.place ≡ p = cc in λ i. Refused (same i) (there i)
 
 pub judge_answer_refused : (v : Verdict) (g : Grant) (w : ℕ) (k : Cause) (p : ℕ) → judge_answer_of v g w ≡ judge.Refused k p → v ≡ Refused k p
-judge_answer_refused Accepted g w k p e = let z : ◌≡◌ {A = ℕ} 0 1 = cc in absurd (omega arith)
-judge_answer_refused (Refused a b) g w k p e = cc
+judge_answer_refused (Ok _) g w k p e = let z : ◌≡◌ {A = ℕ} 0 1 = cc in absurd (omega arith)
+judge_answer_refused (Err fault) g w k p e = let same : fault.cause ≡ k = cc in let there : fault.place ≡ p = cc in λ i. Refused (same i) (there i)
 
 pub judge_answer_accepted : (v : Verdict) (g : Grant) (w : ℕ) (h : Grant) (x : ℕ) → judge_answer_of v g w ≡ judge.Accepted h x → (v ≡ Accepted) × (h ≡ g) × (x ≡ w)
-judge_answer_accepted Accepted g w h x e = (refl, cc, cc)
-judge_answer_accepted (Refused a b) g w h x e = let z : ◌≡◌ {A = ℕ} 0 1 = cc in absurd (omega arith)
+judge_answer_accepted (Ok _) g w h x e = (refl, cc, cc)
+judge_answer_accepted (Err fault) g w h x e = let z : ◌≡◌ {A = ℕ} 0 1 = cc in absurd (omega arith)
 
 -- ---- the entry
 
 module _ (s : Reader) (n : ℕ) where
-  pub entry_invalid : reader_ok s ≡ false → Refused InvalidState 0 ≡ first_fault (entry_checks s n)
-  entry_invalid e = rw e
-
-  pub entry_length : reader_ok s ≡ true → eqb n 256 ≡ false → Refused ContainerLength 0 ≡ first_fault (entry_checks s n)
-  entry_length e f = rw (e, f)
-
   pub entry_accepted : reader_ok s ≡ true → eqb n 256 ≡ true → Accepted ≡ first_fault (entry_checks s n)
   entry_accepted e f = rw (e, f)
 
@@ -97,8 +101,8 @@ module _ (s : Reader) (c : List ℕ) (n : ℕ) where
     pub read_narrow : n < 352 → first_fault (read_checks s c n) ≡ Refused RoomTooSmall 0
     read_narrow h = read_split ∙ rw (entry_fine, lt-leb 352 n h)
 
-    pub read_roomy : 352 ≤ n → first_fault (read_checks s c n) ≡ first_fault (judge_checks s c)
-    read_roomy h = read_split ∙ rw (entry_fine, le-leb 352 n h) (sym (judge_state s c valid len))
+    pub read_state : 352 ≤ n → first_fault (read_checks s c n) ≡ first_fault (state_checks s c)
+    read_state h = read_split ∙ rw (entry_fine, le-leb 352 n h)
 
   -- a reading by its verdict
   read_by : (v : Verdict) → first_fault (read_checks s c n) ≡ v

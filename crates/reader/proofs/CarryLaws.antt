@@ -14,8 +14,7 @@ use Rattle.lists.specs.Parts.{zeros}
 use Rattle.lists.proofs.Tests.{cases, T_true, true_t, and_left, and_right, or_true, never_both, not_true_false}
 use Rattle.lists.proofs.PartLaws.{length_zero}
 use Rattle.lists.proofs.ZeroLaws.{zeros_replicate}
-use Rattle.cause.specs.Checks.{Pass, first_fault}
-use Rattle.cause.specs.declared.Verdict.TheVariants.{Accepted}
+use Rattle.cause.specs.Checks.{Pass, first_fault, Accepted}
 use Rattle.cause.proofs.CheckLaws.{accepted_pass, pass_front, pass_back}
 use Rattle.container.specs.Layout.{Format, format_of, wide, granule}
 use Rattle.container.proofs.Formats.{lawful_of, granule_length}

@@ -13,24 +13,25 @@ use Rattle.cause.specs.declared.Cause.TheVariants.{StartInsideMessage, UnknownMe
 use Rattle.container.specs.Layout.{Format, format_of, wide, start, granule}
 use Rattle.message.specs.Heads.{msg_size, size_by, well_headed}
 use Rattle.message.specs.Places.{placed, placed_by}
-use Rattle.reader.specs.declared.cell.CellAnswer.{CellAnswer}
-use Rattle.reader.specs.declared.cell.CellAnswer.TheVariants as judged
+use Rattle.cause.specs.declared.Cause.{Cause}
+use Rattle.reader.specs.declared.cell.Granule.{Granule}
+use Rattle.std.specs.Prelude.{Result, Ok, Err}
 use Rattle.reader.specs.TrackingMirror.{cell_from, cell_answer, start_mark}
 
 module _ (fm : Format) (g : ℕ) (b : List ℕ) where
-  pub twice : judged.Refused StartInsideMessage ≡ cell_answer fm g (cell_from true true b)
+  pub twice : Err StartInsideMessage ≡ cell_answer fm g (cell_from true true b)
   unfolding cell_answer
   twice = refl
 
-  pub on_fine : length b ≤ 20 → judged.Accepted 1 0 ≡ cell_answer fm g (cell_from true false b)
+  pub on_fine : length b ≤ 20 → Ok (record { mark = 1; size = 0 }) ≡ cell_answer fm g (cell_from true false b)
   unfolding cell_answer
   on_fine h = rw (drop_of_length-le b h)
 
-  pub empty_fine : zeros b ≡ true → judged.Accepted 0 0 ≡ cell_answer fm g (cell_from false false b)
+  pub empty_fine : zeros b ≡ true → Ok (record { mark = 0; size = 0 }) ≡ cell_answer fm g (cell_from false false b)
   unfolding cell_answer
   empty_fine e = rw e
 
-  pub empty_not : zeros b ≡ false → judged.Refused UnusedByteNotZero ≡ cell_answer fm g (cell_from false false b)
+  pub empty_not : zeros b ≡ false → Err UnusedByteNotZero ≡ cell_answer fm g (cell_from false false b)
   unfolding cell_answer
   empty_not e = rw e
 
@@ -39,7 +40,7 @@ module _ (fm : Format) (g : ℕ) (b : List ℕ) where
     size_is : msg_size b ≡ size
     size_is = rw (ez, ef, es)
 
-    pub unknown : size ≡ 0 → judged.Refused UnknownMessage ≡ cell_answer fm g (cell_from false true b)
+    pub unknown : size ≡ 0 → Err UnknownMessage ≡ cell_answer fm g (cell_from false true b)
     unfolding cell_answer
     unknown z = rw (size_is ∙ z)
 
@@ -50,12 +51,12 @@ module _ (fm : Format) (g : ℕ) (b : List ℕ) where
       placed_is : placed fm g b ≡ allowed
       placed_is = rw (ep, ef, es)
 
-      pub misplaced : not allowed ≡ true → judged.Refused PlaceNotAllowed ≡ cell_answer fm g (cell_from false true b)
+      pub misplaced : not allowed ≡ true → Err PlaceNotAllowed ≡ cell_answer fm g (cell_from false true b)
       unfolding cell_answer
       misplaced p = rw (has_size, placed_is ∙ not-true allowed p)
 
       module _ (p : not allowed ≡ false) {headed : Bool} (eh : headed ≡ well_headed b) where
-        pub misheaded : not headed ≡ true → judged.Refused HeadWrong ≡ cell_answer fm g (cell_from false true b)
+        pub misheaded : not headed ≡ true → Err HeadWrong ≡ cell_answer fm g (cell_from false true b)
         unfolding cell_answer
         misheaded h = rw (has_size, placed_is ∙ not-false allowed p, sym eh ∙ not-true headed h)
 
@@ -63,11 +64,11 @@ module _ (fm : Format) (g : ℕ) (b : List ℕ) where
           rest_is : zeros (drop (msg_size b) b) ≡ rest
           rest_is = rw (size_is, er)
 
-          pub start_not : not rest ≡ true → judged.Refused UnusedByteNotZero ≡ cell_answer fm g (cell_from false true b)
+          pub start_not : not rest ≡ true → Err UnusedByteNotZero ≡ cell_answer fm g (cell_from false true b)
           unfolding cell_answer
           start_not z = rw (has_size, placed_is ∙ not-false allowed p, sym eh ∙ not-false headed h, rest_is ∙ not-true rest z)
 
-          pub start_fine : not rest ≡ false → {mark : ℕ} → mark ≡ start_mark (first % 16) second → judged.Accepted mark size ≡ cell_answer fm g (cell_from false true b)
+          pub start_fine : not rest ≡ false → {mark : ℕ} → mark ≡ start_mark (first % 16) second → Ok (record { mark = mark; size = size }) ≡ cell_answer fm g (cell_from false true b)
           unfolding cell_answer
           start_fine z k = rw (has_size, placed_is ∙ not-false allowed p, sym eh ∙ not-false headed h, rest_is ∙ not-false rest z, k, ez, ef, es)
 
@@ -80,6 +81,6 @@ pub on_wide : (on : Bool) (owed n k : ℕ) → on ≡ (ltb 0 owed && eqb n 20) �
 on_wide on owed n k e q t = sym q ∙ eqb-true n 20 (and_right (ltb 0 owed) (eqb n 20) (sym e ∙ t))
 
 -- equal parts make equal cells
-pub same_answer : (f g owed : ℕ) {on : Bool} {n : ℕ} → on ≡ (ltb 0 owed && eqb n 20) → n ≡ (format_of f).size g → {s t : Bool} → s ≡ t → {a b : List ℕ} → a ≡ b → {r : CellAnswer} → r ≡ cell_answer (format_of f) g (cell_from on s a) → r ≡ cell_answer (format_of f) g (cell_from (ltb 0 owed && wide (format_of f) g) t b)
+pub same_answer : (f g owed : ℕ) {on : Bool} {n : ℕ} → on ≡ (ltb 0 owed && eqb n 20) → n ≡ (format_of f).size g → {s t : Bool} → s ≡ t → {a b : List ℕ} → a ≡ b → {r : Result Granule Cause} → r ≡ cell_answer (format_of f) g (cell_from on s a) → r ≡ cell_answer (format_of f) g (cell_from (ltb 0 owed && wide (format_of f) g) t b)
 same_answer f g owed eo en es eb er =
     let x = eo ∙ ap (λ (k : ℕ). ltb 0 owed && eqb k 20) en in er ∙ (λ i. cell_answer (format_of f) g (cell_from (x i) (es i) (eb i)))

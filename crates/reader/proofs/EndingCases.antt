@@ -24,9 +24,6 @@ module _ (fm : Format) (c m : List ℕ) (starts : ℕ) (t : Track) (g w : ℕ) (
     pub ended_long : t.owed ≤ 20 → ended_by fm c m starts t g ≡ gathered_message fm c m t (g + 1) ∷ []
     ended_long h = rw (lt-ltb 0 t.owed on, is_wide, le-leb t.owed 20 h)
 
-    pub ended_later : 20 < t.owed → ended_by fm c m starts t g ≡ []
-    ended_later h = rw (lt-ltb 0 t.owed on, is_wide, lt-leb t.owed 20 h)
-
     pub long_sized : Ending fm c m t g → t.owed ≤ 20 → (t.size ≡ length (gathered_message fm c m t (g + 1))) × (t.size ≤ 120)
     long_sized e h = e on is_wide h
 

@@ -42,47 +42,60 @@ module _ (fm : Format) (c : List ℕ) (s : ℕ) where
       let n = ap length (gathered_next (k + d)) ∙ length-append (gathered fm c s (k + d)) (pick (wide fm (s + (k + d))) (granule fm (s + (k + d)) c) []) in
       rw e (omega arith)
 
--- the wide ones among k granules from s on are copied into d from an offset on, over d₀
-pub record Gathering (f : ℕ) (c : List ℕ) (s n at : ℕ) (d₀ d : List ℕ) (k end : ℕ) : Type 0 where
-  pub within : k ≤ n
-  pub reached : end ≡ at + length (gathered (format_of f) c s k)
-  pub is : d ≡ put at (gathered (format_of f) c s k) d₀
+-- the wide ones among granules s, .., g - 1 are copied into d from an offset on, over d₀
+pub record Gathering (f : ℕ) (c : List ℕ) (s to at : ℕ) (d₀ d : List ℕ) (g end : ℕ) : Type 0 where
+  pub begun : s ≤ g
+  pub within : g ≤ to
+  pub reached : end ≡ at + length (gathered (format_of f) c s (g - s))
+  pub is : d ≡ put at (gathered (format_of f) c s (g - s)) d₀
   pub long : length d ≡ length d₀
 
-pub gathering_none : (f : ℕ) (c : List ℕ) (s n at : ℕ) (d : List ℕ) → Gathering f c s n at d d 0 at
+pub gathering_none : (f : ℕ) (c : List ℕ) (s to at : ℕ) (d : List ℕ) → s ≤ to → Gathering f c s to at d d s at
 unfolding gathered
-gathering_none f c s n at d = record { within = omega arith; reached = omega arith; is = sym (put_none at d); long = refl }
+gathering_none f c s to at d h =
+    let z : s - s ≡ 0 = omega arith in
+    record { begun = omega arith; within = h; reached = rw z (omega arith); is = rw z (sym (put_none at d)); long = refl }
 
-module _ (f : ℕ) (c : List ℕ) (s n at : ℕ) (d₀ d : List ℕ) (k end : ℕ) (whole : length c ≡ 256) (inside : s + n ≤ 12)
-    (fits : at + length (gathered (format_of f) c s n) ≤ length d₀) (h : Gathering f c s n at d₀ d k end) where
+module _ (f : ℕ) (c : List ℕ) (s to at : ℕ) (d₀ d : List ℕ) (g end : ℕ) (whole : length c ≡ 256) (inside : to ≤ 12)
+    (fits : at + length (gathered (format_of f) c s (to - s)) ≤ length d₀) (h : Gathering f c s to at d₀ d g end) where
   abbrev fm : Format
   fm = format_of f
 
-  pub gathering_all : n ≤ k → d ≡ put at (gathered fm c s n) d₀
-  gathering_all l =
-      let w = h.within in
-      let e : k ≡ n = omega arith in
-      h.is ∙ ap (λ (i : ℕ). put at (gathered fm c s i) d₀) e
+  abbrev k : ℕ
+  k = g - s
 
-  -- granule k from s on has w bytes
-  module _ (l : k < n) (w : ℕ) (ew : w ≡ fm.size (s + k)) where
+  -- granule g has w bytes
+  module _ (l : g < to) (w : ℕ) (ew : w ≡ fm.size g) where
+    here : g ≡ s + k
+    here = let b = h.begun in omega arith
+
+    next : (g + 1) - s ≡ k + 1
+    next = let b = h.begun in omega arith
+
+    sized : w ≡ fm.size (s + k)
+    sized = ew ∙ ap fm.size here
+
     -- it is passed over where it is narrow
-    pub gathering_over : (w ≡ 20 → ⊥) → (e : List ℕ) → e ≡ d → (end' : ℕ) → end' ≡ end → Gathering f c s n at d₀ e (k + 1) end'
+    pub gathering_over : (w ≡ 20 → ⊥) → (e : List ℕ) → e ≡ d → (end' : ℕ) → end' ≡ end → Gathering f c s to at d₀ e (g + 1) end'
     gathering_over z e q end' v =
-        let g = gathered_narrow fm c s k (λ (y : fm.size (s + k) ≡ 20). z (ew ∙ y)) in
-        record { within = omega arith; reached = rw g (v ∙ h.reached); is = rw g (q ∙ h.is); long = ap length q ∙ h.long }
+        let b = h.begun in
+        let same = next in
+        let x = gathered_narrow fm c s k (λ (y : fm.size (s + k) ≡ 20). z (sized ∙ y)) in
+        record { begun = omega arith; within = omega arith; reached = rw (same, x) (v ∙ h.reached); is = rw (same, x) (q ∙ h.is); long = ap length q ∙ h.long }
 
     -- it is copied where it is wide
     module _ (z : w ≡ 20) where
       more : length (gathered fm c s (k + 1)) ≡ length (gathered fm c s k) + 20
       more =
-          ap length (gathered_wide fm c s k (sym ew ∙ z)) ∙ length-append (gathered fm c s k) (granule fm (s + k) c)
-          ∙ ap (λ (j : ℕ). length (gathered fm c s k) + j) (granule_length f (s + k) c (omega arith) whole ∙ sym ew ∙ z)
+          let p = here in
+          ap length (gathered_wide fm c s k (sym sized ∙ z)) ∙ length-append (gathered fm c s k) (granule fm (s + k) c)
+          ∙ ap (λ (j : ℕ). length (gathered fm c s k) + j) (granule_length f (s + k) c (omega arith) whole ∙ sym sized ∙ z)
 
       room : at + length (gathered fm c s (k + 1)) ≤ length d₀
       room =
-          let e : (k + 1) + (n - (k + 1)) ≡ n = omega arith in
-          let m = rw e at (gathered_least fm c s (k + 1) (n - (k + 1))) in
+          let b = h.begun in
+          let e : (k + 1) + (to - (g + 1)) ≡ to - s = omega arith in
+          let m = rw e at (gathered_least fm c s (k + 1) (to - (g + 1))) in
           omega arith
 
       pub gathering_room : end + 20 ≤ length d
@@ -99,22 +112,25 @@ module _ (f : ℕ) (c : List ℕ) (s n at : ℕ) (d₀ d : List ℕ) (k end : �
           let e : (a + 20) - a ≡ 20 = omega arith in
           simp (e, length-take) (omega arith)
 
-      pub gathering_more : (a : ℕ) → a ≡ start (s + k) → (e : List ℕ) → e ≡ copied_into end (take ((a + 20) - a) (drop a c)) d
-          → (end' : ℕ) → end' ≡ end + 20 → Gathering f c s n at d₀ e (k + 1) end'
+      pub gathering_more : (a : ℕ) → a ≡ start g → (e : List ℕ) → e ≡ copied_into end (take ((a + 20) - a) (drop a c)) d
+          → (end' : ℕ) → end' ≡ end + 20 → Gathering f c s to at d₀ e (g + 1) end'
       gathering_more a ea e q end' v =
+          let b = h.begun in
           let x = gathered fm c s k in
           let y = granule fm (s + k) c in
           let r = h.reached in
           let m = more in
           let j = room in
+          let same = next in
           let is : e ≡ put at (gathered fm c s (k + 1)) d₀ =
-          q ∙ copied_whole end (take ((a + 20) - a) (drop a c)) d (part_fits a) ∙ ap (λ (t : List ℕ). put end t d) (wide_part fm (s + k) a w c ea ew z)
+          q ∙ copied_whole end (take ((a + 20) - a) (drop a c)) d (part_fits a) ∙ ap (λ (t : List ℕ). put end t d) (wide_part fm (s + k) a w c (ea ∙ ap start here) sized z)
           ∙ ap (λ (t : List ℕ). put end y t) h.is ∙ ap (λ (i : ℕ). put i y (put at x d₀)) r
-          ∙ put_more at x y d₀ (omega arith) ∙ ap (λ (t : List ℕ). put at t d₀) (sym (gathered_wide fm c s k (sym ew ∙ z))) in
+          ∙ put_more at x y d₀ (omega arith) ∙ ap (λ (t : List ℕ). put at t d₀) (sym (gathered_wide fm c s k (sym sized ∙ z))) in
           record {
+            begun = omega arith;
             within = omega arith;
-            reached = omega arith;
-            is = is;
+            reached = rw same (omega arith);
+            is = rw same is;
             long = ap length is ∙ length_put at (gathered fm c s (k + 1)) d₀ j;
           }
 
@@ -126,27 +142,18 @@ module _ (m : List ℕ) (k at : ℕ) (y l : List ℕ) (kept : k ≤ length m) (f
   both_length : length (take k m ++ y) ≡ k + length y
   both_length = length-append (take k m) y ∙ ap (λ (n : ℕ). n + length y) front_length
 
-  all_kept : k - 0 ≡ k
-  all_kept = omega arith
+  front_fits : at + length (take k m) ≤ length l
+  front_fits = let n = both_length in rw front_length (omega arith)
 
-  front_fits : at + length (take (k - 0) m) ≤ length l
-  front_fits = let n = both_length in rw (all_kept, front_length) (omega arith)
-
-  module _ (d : List ℕ) (q : d ≡ copied_into at (take (k - 0) m) l) where
-    front_put : d ≡ put at (take (k - 0) m) l
-    front_put = q ∙ copied_whole at (take (k - 0) m) l front_fits
-
-    pub behind_fits : (at + k) + length y ≤ length d
-    behind_fits =
-        let n = both_length in
-        let e : length d ≡ length l = ap length front_put ∙ length_put at (take (k - 0) m) l front_fits in
-        omega arith
+  module _ (d : List ℕ) (q : d ≡ copied_into at (take k m) l) where
+    front_put : d ≡ put at (take k m) l
+    front_put = q ∙ copied_whole at (take k m) l front_fits
 
     pub both_put : (e : List ℕ) → e ≡ put (at + k) y d → e ≡ put at (take k m ++ y) l
     both_put e r =
         let n = both_length in
         let x = take k m in
-        r ∙ ap (put (at + k) y) (front_put ∙ ap (λ (j : ℕ). put at (take j m) l) all_kept)
+        r ∙ ap (put (at + k) y) front_put
         ∙ ap (λ (j : ℕ). put (at + j) y (put at x l)) (sym front_length)
         ∙ put_more at x y l (rw front_length (omega arith))
 

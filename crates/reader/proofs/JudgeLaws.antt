@@ -3,57 +3,47 @@ use Prim.Native.Nat.{ℕ, zero, suc, ◌+◌}
 use mathlib.Core.Path.{◌≡◌, refl, sym, ap, ◌∙◌}
 use mathlib.Core.Bool.{Bool, true, false, ◌||◌, not}
 use mathlib.Core.List.{List, [], ◌∷◌, ◌++◌}
-use native.Mathlib.Omega.{arith}
 use lib.ListN.{length}
 use lib.Dec.{eqb}
 use borrow.Author.Tests.{not-true, not-false}
-use Rattle.cause.specs.Checks.{check, first_fault, or_else}
-use Rattle.cause.specs.declared.Cause.{Cause}
+use Rattle.lists.proofs.Tests.{or_true}
+use Rattle.cause.specs.Checks.{check, first_fault, or_else, Verdict, Accepted, Refused}
 use Rattle.cause.specs.declared.Cause.TheVariants.{GrantBesideActivation}
-use Rattle.cause.specs.declared.Verdict.{Verdict}
-use Rattle.cause.specs.declared.Verdict.TheVariants.{Accepted, Refused}
+use Rattle.cause.specs.declared.Fault.{Fault}
 use Rattle.cause.proofs.CheckLaws.{first_append}
-use Rattle.container.specs.Layout.{Format, format_of}
+use Rattle.container.specs.Layout.{Format, format_of, msg_start}
 use Rattle.container.specs.Grants.{header_grant, no_counts}
 use Rattle.container.specs.declared.grant.Grant.{Grant}
 use Rattle.placement.specs.Cells.{Cell, cell_at, after, cells}
 use Rattle.placement.specs.Checking.{header_checks, granule_checks, group_checks, activation_checks, container_checks}
-use Rattle.reader.specs.TrackingMirror.{marks_of, mark_checks, activation_marks, behind_granules, Scanned, Looked}
+use Rattle.reader.specs.TrackingMirror.{track_of, track_at, marks_of, mark_checks, activation_marks, behind_granules, scanned, looked}
 use Rattle.reader.specs.declared.track.Track.{Track}
 use Rattle.reader.specs.declared.scan.Scan.{Scan}
 use Rattle.reader.proofs.MarkLaws.{groups_of, activations_of}
-
--- the test of the header beside an Activation, by tests for counts and for an Activation
-pub with_counts : (x n : Bool) → not n ≡ true → not (not x) ≡ (x || n)
-with_counts true n e = refl
-with_counts false true e = e
-with_counts false false e = refl
-
-pub without_counts : (x n : Bool) → not n ≡ false → true ≡ (x || n)
-without_counts true n e = refl
-without_counts false true e = refl
-without_counts false false e = e
+use Rattle.reader.proofs.AnswerLaws.{given_fault, given_fine}
+use Rattle.std.specs.Prelude.{Result, Ok, Err}
 
 -- the verdict behind the granules, with the groups' verdict
-module _ (grant : Grant) (l : List ℕ) {groups : Verdict} (eg : groups ≡ first_fault (mark_checks 4 0 l)) where
+module _ (grant : Grant) (l : List ℕ) where
   abbrev quiet_by : Bool
   quiet_by = eqb (activation_marks 12 0 l) 0 || no_counts grant
 
-  joined : first_fault (behind_granules grant l) ≡ or_else groups (first_fault (check quiet_by GrantBesideActivation 0 ∷ []))
-  joined = rw eg (first_append (mark_checks 4 0 l) (check quiet_by GrantBesideActivation 0 ∷ []))
+  joined : {groups : Verdict} → groups ≡ first_fault (mark_checks 4 0 l) → first_fault (behind_granules grant l) ≡ or_else groups (first_fault (check quiet_by GrantBesideActivation 0 ∷ []))
+  joined e = rw e (first_append (mark_checks 4 0 l) (check quiet_by GrantBesideActivation 0 ∷ []))
 
-  pub groups_fail : {k : Cause} {p : ℕ} → groups ≡ Refused k p → groups ≡ first_fault (behind_granules grant l)
-  groups_fail e = rw (joined, e)
+  pub groups_fail : {fault : Fault} → Err fault ≡ first_fault (mark_checks 4 0 l) → Err fault ≡ first_fault (behind_granules grant l)
+  groups_fail e = sym (joined e)
 
-  module _ (s : groups ≡ Accepted) {quiet : Bool} (eq : quiet ≡ quiet_by) where
-    left : first_fault (behind_granules grant l) ≡ first_fault (check quiet GrantBesideActivation 0 ∷ [])
-    left = joined ∙ rw (s, eq)
+  module _ (s : Accepted ≡ first_fault (mark_checks 4 0 l)) {counts : Bool} (ec : counts ≡ not (no_counts grant)) where
+    pub without_counts : counts ≡ false → Accepted ≡ first_fault (behind_granules grant l)
+    without_counts f = rw (joined s, not-false (no_counts grant) (sym ec ∙ f), or_true (eqb (activation_marks 12 0 l) 0))
 
-    pub beside : not quiet ≡ true → Refused GrantBesideActivation 0 ≡ first_fault (behind_granules grant l)
-    beside q = rw (left, not-true quiet q)
+    module _ {activation : Bool} (ea : activation ≡ not (eqb (activation_marks 12 0 l) 0)) where
+      pub without_activation : activation ≡ false → Accepted ≡ first_fault (behind_granules grant l)
+      without_activation f = rw (joined s, not-false (eqb (activation_marks 12 0 l) 0) (sym ea ∙ f))
 
-    pub behind_fine : not quiet ≡ false → Accepted ≡ first_fault (behind_granules grant l)
-    behind_fine q = rw (left, not-false quiet q)
+      pub beside : counts ≡ true → activation ≡ true → Refused GrantBesideActivation 0 ≡ first_fault (behind_granules grant l)
+      beside t u = rw (joined s, not-true (eqb (activation_marks 12 0 l) 0) (sym ea ∙ u), not-true (no_counts grant) (sym ec ∙ t))
 
 -- a container whose cells are judged
 length_cells : (fm : Format) (c : List ℕ) (k g : ℕ) (m : List ℕ) → length (cells fm c k g m) ≡ k
@@ -68,31 +58,37 @@ behind_same fm c es n =
     ∙ rw (groups_of es n, activations_of es n)
     (sym (first_append (group_checks 4 0 es) (activation_checks fm c es)))
 
-module _ (f : ℕ) (c m : List ℕ) {header : Verdict} (eh : header ≡ first_fault (header_checks (format_of f) c)) where
+module _ (f : ℕ) (c m : List ℕ) where
   abbrev es : List Cell
   es = cells (format_of f) c 12 0 m
 
-  parts_joined : first_fault (container_checks (format_of f) c es) ≡ or_else header (or_else (first_fault (granule_checks (format_of f) 0 es)) (first_fault (group_checks 4 0 es ++ activation_checks (format_of f) c es)))
+  abbrev behind : Verdict
+  behind = first_fault (group_checks 4 0 es ++ activation_checks (format_of f) c es)
+
+  parts_joined : {header : Verdict} → header ≡ first_fault (header_checks (format_of f) c) → first_fault (container_checks (format_of f) c es) ≡ or_else header (or_else (first_fault (granule_checks (format_of f) 0 es)) behind)
   unfolding container_checks
-  parts_joined =
+  parts_joined eh =
       first_append (header_checks (format_of f) c) (granule_checks (format_of f) 0 es ++ (group_checks 4 0 es ++ activation_checks (format_of f) c es))
       ∙ rw (eh, first_append (granule_checks (format_of f) 0 es) (group_checks 4 0 es ++ activation_checks (format_of f) c es))
 
-  pub header_fails : {k : Cause} {p : ℕ} → header ≡ Refused k p → {marks : List ℕ} {track : Track} → Looked f c m (record { verdict = header; marks = marks; track = track })
-  header_fails {k} {p} e = record { verdict = rw (parts_joined, e); track = λ s. absurd (never s) }
-    where
-      never : header ≡ Accepted → ⊥
-      never s = let z : ◌≡◌ {A = ℕ} 0 1 = cc in omega arith
+  pub header_fails : {fault : Fault} → Err fault ≡ first_fault (header_checks (format_of f) c) → ◌≡◌ {A = Result Track Fault} (Err fault) (looked f c m)
+  header_fails e = rw (parts_joined e)
 
-  module _ (s : header ≡ Accepted) {r : Scan} (scan : Scanned f c m r) where
-    pub granules_fail : {k : Cause} {p : ℕ} → r.verdict ≡ Refused k p → Looked f c m r
-    granules_fail e = record { verdict = rw (parts_joined, s, ← scan.verdict, e); track = scan.track }
+  module _ (s : Accepted ≡ first_fault (header_checks (format_of f) c)) where
+    pub granules_fail : {fault : Fault} → Err fault ≡ scanned f c m → ◌≡◌ {A = Result Track Fault} (Err fault) (looked f c m)
+    granules_fail e = rw (parts_joined s, given_fault _ _ (sym e))
 
-    pub marks_judged : r.verdict ≡ Accepted → {grant : Grant} → grant ≡ header_grant (format_of f) c → {v : Verdict} → v ≡ first_fault (behind_granules grant r.marks) → {marks : List ℕ} → Looked f c m (record { verdict = v; marks = marks; track = r.track })
-    marks_judged e {grant} eg {v} ev = record {
-      verdict =
-          ev ∙ (λ i. first_fault (behind_granules (eg i) (scan.marks e i)))
-          ∙ behind_same (format_of f) c es (length_cells (format_of f) c 12 0 m)
-          ∙ sym (parts_joined ∙ rw (s, ← scan.verdict, e));
-      track = λ _. scan.track e;
-    }
+    module _ {r : Scan} (e : Ok r ≡ scanned f c m) {grant : Grant} (eg : grant ≡ header_grant (format_of f) c) where
+      fine : (first_fault (granule_checks (format_of f) 0 es) ≡ Accepted) × (r ≡ record { marks = marks_of es; track = track_at (format_of f) c (msg_start (format_of f) c) (track_of m) 12 })
+      fine = given_fine _ _ (sym e)
+
+      left_by_marks : first_fault (container_checks (format_of f) c es) ≡ first_fault (behind_granules grant r.marks)
+      left_by_marks =
+          (parts_joined s ∙ rw fine.0)
+          ∙ sym ((λ i. first_fault (behind_granules (eg i) (fine.1 i).marks)) ∙ behind_same (format_of f) c es (length_cells (format_of f) c 12 0 m))
+
+      pub marks_fail : {fault : Fault} → Err fault ≡ first_fault (behind_granules grant r.marks) → ◌≡◌ {A = Result Track Fault} (Err fault) (looked f c m)
+      marks_fail b = rw (left_by_marks, ← b)
+
+      pub marks_fine : Accepted ≡ first_fault (behind_granules grant r.marks) → ◌≡◌ {A = Result Track Fault} (Ok r.track) (looked f c m)
+      marks_fine b = rw (left_by_marks, ← b) (λ i. Ok (fine.1 i).track)

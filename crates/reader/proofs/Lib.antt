@@ -4,7 +4,6 @@ pub mod EndingLaws
 pub mod LinkLaws
 pub mod PlaceLaws
 pub mod AnswerLaws
-pub mod StateCases
 pub mod TrackCases
 pub mod TrackLaws
 pub mod CellLaws

@@ -1,30 +1,28 @@
 -- The checks of groups and of the header beside an Activation, by the marks of cells. Assumes nothing.
 use Prim.Native.Nat.{ℕ, zero, suc, ◌+◌, ◌-◌, ◌*◌, ◌/◌, ◌%◌, ◌≤◌, ◌<◌}
 use mathlib.Core.Path.{◌≡◌, refl, sym, ap, ◌∙◌}
-use mathlib.Core.Bool.{Bool, true, false, ◌&&◌, not}
+use mathlib.Core.Bool.{Bool, true, false, ◌&&◌, ◌||◌, not}
+use mathlib.Core.Logic.{⊎_elim}
 use mathlib.Core.List.{List, [], ◌∷◌}
 use native.Mathlib.Omega.{arith}
 use lib.ListN.{length, get_or, drop}
 use lib.Seq.{get_or-drop, drop-drop}
 use lib.Dec.{eqb, leb}
-use borrow.Author.Tests.{ne_eqb}
+use borrow.Author.Tests.{ne_eqb, leb-true, leb-false}
+use Rattle.std.specs.List.{list_any}
+use Rattle.lists.proofs.Tests.{cases}
 use Rattle.lists.specs.Pick.{pick}
 use Rattle.lists.proofs.PickLaws.{pick_both}
-use Rattle.cause.specs.Checks.{first_fault, or_else}
-use Rattle.cause.specs.declared.Cause.{Cause}
-use Rattle.cause.specs.declared.Verdict.{Verdict}
-use Rattle.cause.specs.declared.Verdict.TheVariants.{Accepted, Refused}
+use Rattle.cause.specs.Checks.{Check, first_fault, or_else, Verdict, Accepted}
+use Rattle.cause.specs.declared.Fault.{Fault}
 use Rattle.cause.proofs.CheckLaws.{first_append}
+use Rattle.std.specs.Prelude.{Err}
 use Rattle.message.specs.Heads.{type_of}
-use Rattle.message.specs.Places.{responses_by, responses, miscs_by, miscs}
+use Rattle.message.specs.Places.{responses, miscs}
 use Rattle.message.proofs.PlaceLaws.{responses_most, miscs_most}
 use Rattle.placement.specs.Cells.{Cell}
 use Rattle.placement.specs.Checking.{populated, no_gap, starting, sum_of, group_checks, activations}
 use Rattle.reader.specs.TrackingMirror.{mark_of, marks_of, group_by, mark_checks, activation_marks}
-
--- the counts of a mark, as the code has them, stay below an Activation's bit
-pub counts_most : (t : ℕ) {r m : ℕ} → r ≡ responses_by t → m ≡ miscs_by t → 4 * r + 32 * m ≤ 40
-counts_most t er em = omega (arith, responses_most t, miscs_most t)
 
 -- the parts of a cell's mark
 abbrev fills : Cell → ℕ
@@ -140,36 +138,44 @@ activations_from (suc k) i l (a ∷ es) n e =
 pub activations_of : (es : List Cell) → length es ≡ 12 → activation_marks 12 0 (marks_of es) ≡ sum_of activations es
 activations_of es n = activations_from 12 0 (marks_of es) es n refl
 
--- one turn of the loop over the groups, with the verdict v of group q
-module _ (l : List ℕ) (q : ℕ) (h : q < 4) {all v : Verdict} (ea : all ≡ first_fault (mark_checks (4 - q) q l)) (ev : v ≡ first_fault (group_by q (get_or l (3 * q) 0) (get_or l (3 * q + 1) 0) (get_or l (3 * q + 2) 0))) where
-  turn : all ≡ or_else v (first_fault (mark_checks (4 - (q + 1)) (q + 1) l))
+-- one turn of the loop over the groups
+module _ (l : List ℕ) (q : ℕ) (h : q < 4) {all : Verdict} (ea : all ≡ first_fault (mark_checks (4 - q) q l)) where
+  abbrev here : List Check
+  here = group_by q (get_or l (3 * q) 0) (get_or l (3 * q + 1) 0) (get_or l (3 * q + 2) 0)
+
+  turn : {v : Verdict} → v ≡ first_fault here → all ≡ or_else v (first_fault (mark_checks (4 - (q + 1)) (q + 1) l))
   unfolding mark_checks
-  turn =
+  turn ev =
       let e : 4 - q ≡ suc (4 - (q + 1)) = omega arith in
-      rw (ea, e, ev) (first_append (group_by q (get_or l (3 * q) 0) (get_or l (3 * q + 1) 0) (get_or l (3 * q + 2) 0)) (mark_checks (4 - (q + 1)) (q + 1) l))
+      rw (ea, e, ev) (first_append here (mark_checks (4 - (q + 1)) (q + 1) l))
 
-  pub groups_stop : {k : Cause} {p : ℕ} → v ≡ Refused k p → v ≡ all
-  groups_stop e = rw (turn, e)
+  pub groups_stop : {fault : Fault} → Err fault ≡ first_fault here → Err fault ≡ all
+  groups_stop e = sym (turn e)
 
-  pub groups_go_on : v ≡ Accepted → all ≡ first_fault (mark_checks (4 - (q + 1)) (q + 1) l)
-  groups_go_on e = rw e at turn
+  pub groups_go_on : Accepted ≡ first_fault here → all ≡ first_fault (mark_checks (4 - (q + 1)) (q + 1) l)
+  groups_go_on e = turn e
 
 pub groups_end : (l : List ℕ) (q : ℕ) → 4 ≤ q → first_fault (mark_checks (4 - q) q l) ≡ Accepted
 unfolding mark_checks
 groups_end l q h = let e : 4 - q ≡ 0 = omega arith in rw e
 
--- one turn of the loop over the marks
-module _ (l : List ℕ) (i : ℕ) (h : i < 12) {all : ℕ} (ea : all ≡ activation_marks (12 - i) i l) where
-  count : all ≡ get_or l i 0 / 128 + activation_marks (12 - (i + 1)) (i + 1) l
-  unfolding activation_marks
-  count = let e : 12 - i ≡ suc (12 - (i + 1)) = omega arith in rw (ea, e)
+-- an Activation is among marks where one of them is at least 128
+counts_one : (a x : ℕ) → (leb 128 a || not (eqb x 0)) ≡ not (eqb (a / 128 + x) 0)
+counts_one a x =
+    ⊎_elim
+    (λ (t : leb 128 a ≡ true). let h = leb-true 128 a t in rw (t, ne_eqb (a / 128 + x) 0 (λ z. omega arith)))
+    (λ (t : leb 128 a ≡ false). let h = leb-false 128 a t in let e : a / 128 + x ≡ x = omega arith in rw (t, e))
+    (cases (leb 128 a))
 
-  pub activations_stop : 128 ≤ get_or l i 0 → true ≡ not (eqb all 0)
-  activations_stop k = let e = count in rw (ne_eqb all 0 (λ z. omega arith))
-
-  pub activations_go_on : get_or l i 0 < 128 → all ≡ activation_marks (12 - (i + 1)) (i + 1) l
-  activations_go_on k = let e = count in omega arith
-
-pub activations_end : (l : List ℕ) (i : ℕ) → 12 ≤ i → activation_marks (12 - i) i l ≡ 0
+any_from : (k i : ℕ) (l r : List ℕ) → length r ≡ k → drop i l ≡ r → list_any (leb 128) r ≡ not (eqb (activation_marks k i l) 0)
 unfolding activation_marks
-activations_end l i h = let e : 12 - i ≡ 0 = omega arith in rw e
+any_from zero i l [] n e = refl
+any_from zero i l (a ∷ r) n e = absurd (omega arith)
+any_from (suc k) i l [] n e = absurd (omega arith)
+any_from (suc k) i l (a ∷ r) n e =
+    let z : i ≡ i + 0 = omega arith in
+    let first : get_or l i 0 ≡ a = ap (λ (j : ℕ). get_or l j 0) z ∙ element i 0 l e in
+    rw (first, any_from k (i + 1) l r (omega arith) (behind i 1 l e)) (counts_one a (activation_marks k (i + 1) l))
+
+pub any_activation : (l : List ℕ) → length l ≡ 12 → list_any (leb 128) l ≡ not (eqb (activation_marks 12 0 l) 0)
+any_activation l n = any_from 12 0 l l n refl

@@ -1,13 +1,12 @@
 -- The reader behind an accepted container, as the code makes it. Assumes nothing.
 use Prim.Native.Nat.{ℕ, ◌-◌, ◌≤◌}
-use mathlib.Core.Path.{◌≡◌, sym, ap, ◌∙◌, subst}
+use mathlib.Core.Path.{◌≡◌, refl, sym, ap, ◌∙◌}
 use mathlib.Core.Bool.{true}
 use mathlib.Core.List.{List}
 use native.Mathlib.Omega.{arith}
 use lib.ListN.{length, take, drop, length-take}
 use borrow.Author.Tests.{leb-true}
-use Rattle.cause.specs.Checks.{Pass, first_fault}
-use Rattle.cause.specs.declared.Verdict.TheVariants.{Accepted}
+use Rattle.cause.specs.Checks.{Pass, first_fault, given, Accepted}
 use Rattle.cause.proofs.CheckLaws.{accepted_pass}
 use Rattle.container.specs.Layout.{Format, format_of, msg_start}
 use Rattle.record.specs.Records.{records_of}
@@ -15,11 +14,13 @@ use Rattle.placement.specs.Cells.{cells, endings, carry_ok}
 use Rattle.placement.specs.Checking.{granule_checks}
 use Rattle.placement.proofs.Keeps.{progress}
 use Rattle.reader.specs.Reading.{bytes_in, carry_with, reader_ok, carried, state_checks, next_reader, records}
-use Rattle.reader.specs.TrackingMirror.{track_of, track_at, in_progress, GoingOn, Begun, Looked}
+use Rattle.reader.specs.TrackingMirror.{track_of, track_at, in_progress, GoingOn, Begun, looked}
 use Rattle.reader.specs.declared.carry.Carry.{Carry}
 use Rattle.reader.specs.declared.reader.Reader.{Reader}
 use Rattle.reader.specs.declared.track.Track.{Track}
-use Rattle.reader.specs.declared.scan.Scan.{Scan}
+use Rattle.cause.specs.declared.Fault.{Fault}
+use Rattle.std.specs.Prelude.{Result, Ok, Err}
+use Rattle.reader.proofs.AnswerLaws.{given_fault, given_fine}
 use Rattle.reader.proofs.CarryLaws.{reader_ok_valid, carry_valid, granules_pass}
 use Rattle.placement.proofs.ProgressLaws.{carry_of}
 use Rattle.reader.proofs.TrackLaws.{Follows, follows, gathered_progress}
@@ -73,26 +74,26 @@ module _ (s : Reader) (c : List ℕ) (valid : reader_ok s ≡ true) (len : lengt
   unfolding next_reader
   next_is k e = ap (λ (x : Carry). record { format = s.format; carry = x }) (e ∙ ap carry_with (gathered_next ∙ sym (carry_of fm c m)))
 
--- what looking at a container from a valid state says of its checks
-module _ (s : Reader) (c : List ℕ) (r : Scan) (looked : Looked s.format c (take (s.carry.len - 0) (drop 0 s.carry.bytes)) r) where
-  seen : Looked s.format c (carried s) r
-  seen = subst (λ (m : List ℕ). Looked s.format c m r) (carry_part s.carry) looked
-
-  pub looked_verdict : r.verdict ≡ first_fault (state_checks s c)
+-- what judging a container says of the reader behind it
+module _ (s : Reader) (c : List ℕ) where
+  pub accept_fails : {fault : Fault} → Err fault ≡ looked s.format c (carried s) → ◌≡◌ {A = Result Reader Fault} (Err fault) (given (first_fault (state_checks s c)) (next_reader s c))
   unfolding state_checks
-  looked_verdict = seen.verdict
+  accept_fails e = rw (given_fault _ _ (sym e))
 
-  pub looked_track : r.verdict ≡ Accepted → r.track ≡ track_at (format_of s.format) c (msg_start (format_of s.format) c) (track_of (carried s)) 12
-  looked_track = seen.track
+  module _ {t : Track} (e : Ok t ≡ looked s.format c (carried s)) where
+    pub track_looked : (first_fault (state_checks s c) ≡ Accepted) × (t ≡ track_at (format_of s.format) c (msg_start (format_of s.format) c) (track_of (carried s)) 12)
+    unfolding state_checks
+    track_looked = given_fine _ _ (sym e)
 
-  pub looked_pass : r.verdict ≡ Accepted → Pass (granule_checks (format_of s.format) 0 (cells (format_of s.format) c 12 0 (carried s)))
-  unfolding state_checks
-  looked_pass e =
-      granules_pass (format_of s.format) c (cells (format_of s.format) c 12 0 (carried s))
-      (accepted_pass (state_checks s c) (sym looked_verdict ∙ e))
+    pub track_fine : Pass (granule_checks (format_of s.format) 0 (cells (format_of s.format) c 12 0 (carried s)))
+    unfolding state_checks
+    track_fine = granules_pass (format_of s.format) c (cells (format_of s.format) c 12 0 (carried s)) (accepted_pass (state_checks s c) track_looked.0)
 
--- the records of a reader's container, with its carry as the code takes it
-pub records_part : (s : Reader) (c : List ℕ)
-    → records_of (endings (format_of s.format) 0 (cells (format_of s.format) c 12 0 (take (s.carry.len - 0) (drop 0 s.carry.bytes))) (take (s.carry.len - 0) (drop 0 s.carry.bytes))) ≡ records s c
+    pub accept_fine : reader_ok s ≡ true → length c ≡ 256 → (k : Carry) → k ≡ carry_with (in_progress (format_of s.format) c (carried s) t 12)
+        → ◌≡◌ {A = Result Reader Fault} (Ok (record { format = s.format; carry = k })) (given (first_fault (state_checks s c)) (next_reader s c))
+    accept_fine valid len k ek = rw track_looked.0 (ap Ok (next_is s c valid len t track_looked.1 k ek))
+
+-- the records of a reader's container
+pub records_are : (s : Reader) (c : List ℕ) → records_of (endings (format_of s.format) 0 (cells (format_of s.format) c 12 0 (carried s)) (carried s)) ≡ records s c
 unfolding records
-records_part s c = ap (λ (m : List ℕ). records_of (endings (format_of s.format) 0 (cells (format_of s.format) c 12 0 m) m)) (carry_part s.carry)
+records_are s c = refl

@@ -6,9 +6,9 @@ use mathlib.Core.List.{List, [], ◌∷◌, ◌++◌}
 use mathlib.Core.Logic.{⊎_elim}
 use native.Mathlib.Omega.{arith}
 use Rattle.lists.proofs.Tests.{cases}
-use Rattle.cause.specs.Checks.{Check, first_fault}
+use Rattle.cause.specs.Checks.{Check, first_fault, Refused}
 use Rattle.cause.specs.declared.Cause.{Cause}
-use Rattle.cause.specs.declared.Verdict.TheVariants.{Refused}
+use Rattle.cause.proofs.FaultLaws.{refused_at}
 use Rattle.container.specs.Layout.{Format, format_of}
 use Rattle.placement.specs.Cells.{Cell, cells, cell_at, after}
 use Rattle.placement.specs.Checking.{granule_checks, group_checks, activation_checks, container_checks}
@@ -35,7 +35,7 @@ first_below n (x ∷ l) b k p e =
     (cases x.passes)
   where
     found : (c : Cause) (q : ℕ) → q < n → Refused c q ≡ Refused k p → p < n
-    found c q h f = let w : q ≡ p = cc in omega arith
+    found c q h f = omega (arith, refused_at _ _ _ _ f)
 
 granules_below : (fm : Format) (c : List ℕ) (k g : ℕ) (m : List ℕ) → g + k ≤ 12 → Below 12 (granule_checks fm g (cells fm c k g m))
 unfolding granule_checks cells

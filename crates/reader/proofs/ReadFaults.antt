@@ -6,10 +6,8 @@ use mathlib.Core.Logic.{inl, inr, ◌↔◌}
 use native.Mathlib.Omega.{arith}
 use lib.ListN.{length}
 use borrow.Author.Tests.{lt-leb, ne_eqb, leb-false, eqb-false}
-use Rattle.cause.specs.Checks.{first_fault}
+use Rattle.cause.specs.Checks.{first_fault, Verdict, Accepted, Refused}
 use Rattle.cause.specs.declared.Cause.{Cause}
-use Rattle.cause.specs.declared.Verdict.{Verdict}
-use Rattle.cause.specs.declared.Verdict.TheVariants.{Accepted, Refused}
 use Rattle.container.specs.Layout.{Format, format_of, msg_start}
 use Rattle.container.specs.Grants.{header_grant}
 use Rattle.container.specs.declared.grant.Grant.{Grant}
@@ -23,6 +21,7 @@ use Rattle.reader.proofs.CellFaults.{ReadCells}
 use Rattle.cause.proofs.FirstLaws.{Fails, First, None, Lists, rises_from, listed_first, listed_none}
 use Rattle.cause.proofs.RankedLaws.{ranked, tests_ranked, fails_as, Ranked, chain}
 use Rattle.placement.proofs.ContainerFaults.{container_sites, container_complete, container_rises, container_sound}
+use Rattle.std.specs.Prelude.{Ok, Err}
 
 module _ (s : Reader) (c : List ℕ) where
   abbrev fm : Format
@@ -60,8 +59,8 @@ module _ (s : Reader) (c : List ℕ) where
     refused_as v a g k p = (read_answer_refused v a g k p, λ e. rw e)
 
     done_as : (v : Verdict) (a : ℕ) (g : Grant) → (answer_of v a g ≡ answer.Accepted a g) ↔ (v ≡ Accepted)
-    done_as Accepted a g = (λ e. refl, λ e. refl)
-    done_as (Refused k p) a g = (λ e. let z : ◌≡◌ {A = ℕ} 0 1 = cc in absurd (omega arith), λ e. let z : ◌≡◌ {A = ℕ} 0 1 = cc in absurd (omega arith))
+    done_as (Ok _) a g = (λ e. refl, λ e. refl)
+    done_as (Err fault) a g = (λ e. let z : ◌≡◌ {A = ℕ} 0 1 = cc in absurd (omega arith), λ e. let z : ◌≡◌ {A = ℕ} 0 1 = cc in absurd (omega arith))
 
     -- a reading refuses with a cause and a place exactly where it is the first fault
     pub read_first : (k : Cause) (p : ℕ) → ((reading s c n).answer ≡ answer.Refused k p) ↔ First (Ranked (ReadCells s c n)) k p

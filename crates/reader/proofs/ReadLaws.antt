@@ -7,9 +7,7 @@ use mathlib.Core.Logic.{◌↔◌}
 use native.Mathlib.Omega.{arith}
 use lib.ListN.{length}
 use borrow.Author.Tests.{le-leb, eq-eqb, leb-true, eqb-true}
-use Rattle.cause.specs.Checks.{first_fault}
-use Rattle.cause.specs.declared.Verdict.{Verdict}
-use Rattle.cause.specs.declared.Verdict.TheVariants.{Accepted, Refused}
+use Rattle.cause.specs.Checks.{first_fault, Verdict, Accepted}
 use Rattle.cause.proofs.CheckLaws.{pass_accepted, accepted_pass}
 use Rattle.container.specs.Layout.{format_of, msg_start}
 use Rattle.container.specs.Grants.{header_grant}
@@ -20,16 +18,17 @@ use Rattle.reader.specs.declared.reader.Reader.{Reader}
 use Rattle.reader.specs.declared.reader.Answer.TheVariants as answer
 use Rattle.reader.specs.declared.reader.JudgeAnswer.TheVariants as judge
 use Rattle.placement.proofs.KeepsLaws.{passes_keeps, keeps_passes}
+use Rattle.std.specs.Prelude.{Ok, Err}
 
 -- an answer that accepts is that of a sound verdict
 answer_exactly : (v : Verdict) (n : ℕ) (grant : Grant) → (answer_of v n grant ≡ answer.Accepted n grant) ↔ (v ≡ Accepted)
-answer_exactly Accepted n grant = (λ e. refl, λ e. refl)
-answer_exactly (Refused c p) n grant =
+answer_exactly (Ok _) n grant = (λ e. refl, λ e. refl)
+answer_exactly (Err fault) n grant =
     (λ e. let z : ◌≡◌ {A = ℕ} 0 1 = cc in absurd (omega arith), λ e. let z : ◌≡◌ {A = ℕ} 0 1 = cc in absurd (omega arith))
 
 judge_answer_exactly : (v : Verdict) (grant : Grant) (starts : ℕ) → (judge_answer_of v grant starts ≡ judge.Accepted grant starts) ↔ (v ≡ Accepted)
-judge_answer_exactly Accepted grant starts = (λ e. refl, λ e. refl)
-judge_answer_exactly (Refused c p) grant starts =
+judge_answer_exactly (Ok _) grant starts = (λ e. refl, λ e. refl)
+judge_answer_exactly (Err fault) grant starts =
     (λ e. let z : ◌≡◌ {A = ℕ} 0 1 = cc in absurd (omega arith), λ e. let z : ◌≡◌ {A = ℕ} 0 1 = cc in absurd (omega arith))
 
 module _ (s : Reader) (c : List ℕ) where

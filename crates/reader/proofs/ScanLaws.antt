@@ -10,27 +10,28 @@ use lib.ListN.{length, get_or, set, replicate}
 use lib.Dec.{ltb}
 use Rattle.lists.specs.Pick.{pick}
 use Rattle.lists.proofs.Fill.{grown, grown_more, grown_all}
-use Rattle.cause.specs.Checks.{Check, check, first_fault}
+use Rattle.cause.specs.Checks.{Check, check, first_fault, Verdict, Accepted, Refused}
 use Rattle.cause.specs.declared.Cause.{Cause}
+use Rattle.cause.specs.declared.Fault.{Fault}
 use Rattle.cause.specs.declared.Cause.TheVariants.{StartInsideMessage, UnknownMessage, PlaceNotAllowed, HeadWrong, UnusedByteNotZero}
-use Rattle.cause.specs.declared.Verdict.{Verdict}
-use Rattle.cause.specs.declared.Verdict.TheVariants.{Accepted, Refused}
 use Rattle.container.specs.Layout.{Format, format_of, wide, granule, msg_start, bit}
 use Rattle.message.specs.Heads.{msg_size}
 use Rattle.placement.specs.Cells.{Cell, owed, cells}
 use Rattle.placement.specs.Checking.{starting, starts_alone, start_known, start_placed, start_headed, rest_zero, cell_checks, granule_checks}
 use Rattle.placement.proofs.Keeps.{progress, cell_of}
-use Rattle.reader.specs.TrackingMirror.{track_of, track_by, track_after, track_at, mark_of, marks_of, cell_from, cell_answer_of, cell_answer, Scanned, Begun}
+use Rattle.reader.specs.TrackingMirror.{track_of, track_by, track_after, track_at, mark_of, marks_of, cell_from, cell_answer_of, cell_answer, scanned, Begun}
 use Rattle.reader.specs.declared.track.Track.{Track}
-use Rattle.reader.specs.declared.cell.CellAnswer.{CellAnswer}
-use Rattle.reader.specs.declared.cell.CellAnswer.TheVariants as judged
+use Rattle.reader.specs.declared.cell.Granule.{Granule}
+use Rattle.reader.specs.declared.scan.Scan.{Scan}
 use Rattle.placement.proofs.ProgressLaws.{list_from, cells_of}
 use Rattle.reader.proofs.TrackLaws.{follows}
+use Rattle.std.specs.Prelude.{Result, Ok, Err}
+use Rattle.std.specs.Result.{MatchResult}
 
 -- what a cell's answer makes of the verdict on what comes behind it
-abbrev then : CellAnswer → ℕ → Verdict → Verdict
-then (judged.Refused k) g v = Refused k g
-then (judged.Accepted n k) g v = v
+abbrev then : Result Granule Cause → ℕ → Verdict → Verdict
+then (Err k) g v = Refused k g
+then (Ok _) g v = v
 
 -- a cell's checks before others
 checks_first : (fm : Format) (g : ℕ) (e : Cell) (l : List Check) → first_fault (cell_checks fm g e ++ l) ≡ then (cell_answer fm g e) g (first_fault l)
@@ -50,13 +51,13 @@ checks_first fm g e l = by (starts_alone e) (start_known e) (start_placed fm g e
     by true true true true true = refl
 
 -- the mark and the size that are found are the cell's
-mark_is : (v : Verdict) (n i k j : ℕ) → cell_answer_of v n i ≡ judged.Accepted k j → (k ≡ n) × (j ≡ i)
-mark_is Accepted n i k j e = (cc, cc)
-mark_is (Refused a p) n i k j e = let z : ◌≡◌ {A = ℕ} 0 1 = cc in absurd (omega arith)
+mark_is : (v : Verdict) (n i : ℕ) (r : Granule) → cell_answer_of v n i ≡ Ok r → (r.mark ≡ n) × (r.size ≡ i)
+mark_is (Ok _) n i r e = let same : r ≡ record { mark = n; size = i } = cc in (ap (λ (x : Granule). x.mark) same, ap (λ (x : Granule). x.size) same)
+mark_is (Err fault) n i r e = let z : ◌≡◌ {A = ℕ} 0 1 = cc in absurd (omega arith)
 
-accepted_mark : (fm : Format) (g : ℕ) (e : Cell) (k j : ℕ) → cell_answer fm g e ≡ judged.Accepted k j → (k ≡ mark_of e) × (j ≡ starting msg_size e)
+accepted_mark : (fm : Format) (g : ℕ) (e : Cell) (r : Granule) → cell_answer fm g e ≡ Ok r → (r.mark ≡ mark_of e) × (r.size ≡ starting msg_size e)
 unfolding cell_answer
-accepted_mark fm g e k j = mark_is (first_fault (cell_checks fm g e)) (mark_of e) (starting msg_size e) k j
+accepted_mark fm g e = mark_is (first_fault (cell_checks fm g e)) (mark_of e) (starting msg_size e)
 
 -- where no message starts, its size does not matter
 size_matters : (fm : Format) (g : ℕ) (st : Bool) (n : ℕ) (t : Track) → track_by fm g st (pick st n 0) t ≡ track_by fm g st n t
@@ -129,7 +130,7 @@ unfolding track_at
 scan_starts f c m e = record { within = omega arith; grows = refl; follows = e; same = fault_start (format_of f) c m }
 
 -- granule g of a container, with what the code found there
-module _ (f : ℕ) (c m : List ℕ) {marks : List ℕ} {track : Track} (g : ℕ) {w : ℕ} {found : CellAnswer}
+module _ (f : ℕ) (c m : List ℕ) {marks : List ℕ} {track : Track} (g : ℕ) {w : ℕ} {found : Result Granule Cause}
     (n : length c ≡ 256) (ew : w ≡ msg_start (format_of f) c) (begun : Begun m) (b : g < 12) (i : Scanning f c m marks track g)
     (ef : found ≡ cell_answer (format_of f) g (cell_from (ltb 0 track.owed && wide (format_of f) g) (bit w g) (granule (format_of f) g c))) where
   owes : track.owed ≡ owed (progress (format_of f) c m g)
@@ -140,39 +141,38 @@ module _ (f : ℕ) (c m : List ℕ) {marks : List ℕ} {track : Track} (g : ℕ)
   found_is = ef ∙ (λ j. cell_answer (format_of f) g (cell_from (ltb 0 (owes j) && wide (format_of f) g) (bit (ew j) g) (granule (format_of f) g c)))
 
   fault_is : first_fault (granule_checks (format_of f) 0 (cells (format_of f) c 12 0 m)) ≡ then found g (fault_from (format_of f) c m (g + 1))
-  fault_is = i.same ∙ fault_at (format_of f) c m g b ∙ ap (λ (x : CellAnswer). then x g (fault_from (format_of f) c m (g + 1))) (sym found_is)
+  fault_is = i.same ∙ fault_at (format_of f) c m g b ∙ ap (λ (x : Result Granule Cause). then x g (fault_from (format_of f) c m (g + 1))) (sym found_is)
 
-  pub scan_stops : {k : Cause} → found ≡ judged.Refused k → Scanned f c m (record { verdict = Refused k g; marks = marks; track = track })
-  scan_stops {k} e = record {
-    verdict = sym (rw e at fault_is);
-    marks = λ s. absurd (never s);
-    track = λ s. absurd (never s);
-  }
-    where
-      never : Refused k g ≡ Accepted → ⊥
-      never s = let z : ◌≡◌ {A = ℕ} 0 1 = cc in omega arith
+  pub scan_stops : {k : Cause} → found ≡ Err k → ◌≡◌ {A = Result Scan Fault} (Err (record { cause = k; place = g })) (scanned f c m)
+  scan_stops e = rw (rw e at fault_is)
 
-  track_is : {k n : ℕ} → found ≡ judged.Accepted k n → {st : Bool} → st ≡ bit w g → track_by (format_of f) g st n track ≡ track_after (format_of f) c w g track
+  track_is : {r : Granule} → found ≡ Ok r → {st : Bool} → st ≡ bit w g → track_by (format_of f) g st r.size track ≡ track_after (format_of f) c w g track
   unfolding track_after
-  track_is {k} {n} e es =
-      let en = (accepted_mark (format_of f) g (cell_from (ltb 0 track.owed && wide (format_of f) g) (bit w g) (granule (format_of f) g c)) k n (sym ef ∙ e)).1 in
+  track_is {r} e es =
+      let en = (accepted_mark (format_of f) g (cell_from (ltb 0 track.owed && wide (format_of f) g) (bit w g) (granule (format_of f) g c)) r (sym ef ∙ e)).1 in
       (λ j. track_by (format_of f) g (es j) (en j) track) ∙ size_matters (format_of f) g (bit w g) (msg_size (granule (format_of f) g c)) track
 
-  pub scan_goes_on : {k n : ℕ} → found ≡ judged.Accepted k n → {st : Bool} → st ≡ bit w g → {track' : Track} → track' ≡ track_by (format_of f) g st n track → Scanning f c m (set marks g k) track' (g + 1)
+  pub scan_goes_on : {r : Granule} → found ≡ Ok r → {st : Bool} → st ≡ bit w g → {track' : Track} → track' ≡ track_by (format_of f) g st r.size track → Scanning f c m (set marks g r.mark) track' (g + 1)
   unfolding track_at
-  scan_goes_on {k} {n} e es {track'} et = record {
+  scan_goes_on {r} e es {track'} et = record {
     within = omega arith;
-    grows = ap (λ (l : List ℕ). set l g k) i.grows ∙ marks_next (format_of f) c m g k b (accepted_mark (format_of f) g (cell_of (format_of f) c m g) k n (sym found_is ∙ e)).0;
+    grows = ap (λ (l : List ℕ). set l g r.mark) i.grows ∙ marks_next (format_of f) c m g r.mark b (accepted_mark (format_of f) g (cell_of (format_of f) c m g) r (sym found_is ∙ e)).0;
     follows = et ∙ track_is e es ∙ (λ j. track_after (format_of f) c (ew j) g (i.follows j)) ∙ ap (track_at (format_of f) c (msg_start (format_of f) c) (track_of m)) (sym (add-one g));
     same = rw e at fault_is;
   }
 
-pub scan_ends : (f : ℕ) (c m : List ℕ) {marks : List ℕ} {track : Track} (g : ℕ) → 12 ≤ g → Scanning f c m marks track g → Scanned f c m (record { verdict = Accepted; marks = marks; track = track })
+pub scan_ends : (f : ℕ) (c m : List ℕ) {marks : List ℕ} {track : Track} (g : ℕ) → 12 ≤ g → Scanning f c m marks track g → ◌≡◌ {A = Result Scan Fault} (Ok (record { marks = marks; track = track })) (scanned f c m)
 scan_ends f c m {marks} {track} g h i =
     let e : g ≡ 12 = let k = i.within in omega arith in
     let j : Scanning f c m marks track 12 = rw e at i in
-    record {
-      verdict = sym (j.same ∙ fault_end (format_of f) c m);
-      marks = λ _. j.grows ∙ marks_all (format_of f) c m;
-      track = λ _. j.follows;
-    }
+    let all = j.grows ∙ marks_all (format_of f) c m in
+    rw (j.same ∙ fault_end (format_of f) c m) (λ k. Ok (record { marks = all k; track = j.follows k }))
+
+-- a result whose error alone is changed
+pub ok_was : (r : Result Granule Cause) {x : Granule} → MatchResult r (λ y. ◌≡◌ {A = Result Granule Fault} (Ok x) (Ok y)) (λ k. ⊥) → r ≡ Ok x
+ok_was (Ok y) {x} e = let same : y ≡ x = cc in ap Ok same
+ok_was (Err k) e = absurd e
+
+pub err_was : (r : Result Granule Cause) (fault : Fault) {P : Cause → Type 0} → MatchResult r (λ y. ◌≡◌ {A = Result Granule Fault} (Err fault) (Ok y)) P → (k : Cause) × (r ≡ Err k) × P k
+err_was (Ok y) fault e = let z : ◌≡◌ {A = ℕ} 0 1 = cc in absurd (omega arith)
+err_was (Err k) fault e = (k, refl, e)

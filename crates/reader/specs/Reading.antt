@@ -1,10 +1,9 @@
 -- Reading (document 01, "The writer's one way", last paragraph, and "Causes and places"): states, answers and lent room.
-use Rattle.std.specs.Prelude.{ℕ, Bool, ◌&&◌, List, [], ◌∷◌, ◌++◌, length, take, drop, eqb, ltb, leb}
+use Rattle.std.specs.Prelude.{ℕ, Bool, ◌&&◌, List, [], ◌∷◌, ◌++◌, length, take, drop, eqb, ltb, leb, Result, Ok, Err}
 use Rattle.lists.specs.Pick.{pick}
 use Rattle.lists.specs.Parts.{zeros, pad, put}
-use Rattle.cause.specs.Checks.{Check, check, first_fault, when_accepted}
-use Rattle.cause.specs.declared.Verdict.{Verdict}
-use Rattle.cause.specs.declared.Verdict.TheVariants.{Accepted, Refused}
+use Rattle.cause.specs.Checks.{Check, check, first_fault, when_accepted, given, Verdict, Accepted, Refused}
+use Rattle.cause.specs.declared.Fault.{Fault}
 use Rattle.cause.specs.declared.Cause.TheVariants.{ContainerLength, RoomTooSmall, InvalidState}
 use Rattle.container.specs.Layout.{format_of, msg_start, container_size, granules}
 use Rattle.container.specs.Grants.{header_grant}
@@ -20,7 +19,6 @@ use Rattle.reader.specs.declared.reader.Step.{Step}
 use Rattle.reader.specs.declared.reader.JudgeAnswer.{JudgeAnswer}
 use Rattle.reader.specs.declared.reader.JudgeAnswer.TheVariants as judge
 use Rattle.reader.specs.declared.reader.Judged.{Judged}
-use Rattle.reader.specs.declared.reader.Created.{Created}
 
 -- the bytes of a carry
 abbrev pub bytes_in : Carry → List ℕ
@@ -46,9 +44,9 @@ reader_ok s = ltb s.format 2 && valid_carry s.carry
 abbrev pub reader_with : ℕ → List ℕ → Reader
 reader_with f m = record { format = f; carry = carry_with m }
 
--- a reader's start: nothing carried; a format that is none is 19, beside a reader that every step refuses
-abbrev pub new_reader : ℕ → Created
-new_reader f = record { reader = reader_with f []; verdict = pick (ltb f 2) Accepted (Refused InvalidState 0) }
+-- a reader's start: nothing carried; a format that is none is 19
+abbrev pub new_reader : ℕ → Result Reader Fault
+new_reader f = given (pick (ltb f 2) Accepted (Refused InvalidState 0)) (reader_with f [])
 
 -- the least room of a reading
 abbrev pub room_size : ℕ
@@ -81,8 +79,8 @@ records s c = records_of (endings (format_of s.format) 0 (cells (format_of s.for
 
 -- an accepted container answers the length written and the header grant; a refusal its cause and place
 abbrev pub answer_of : Verdict → ℕ → Grant → Answer
-answer_of Accepted n grant = answer.Accepted n grant
-answer_of (Refused c p) n grant = answer.Refused c p
+answer_of (Ok _) n grant = answer.Accepted n grant
+answer_of (Err fault) n grant = answer.Refused fault.cause fault.place
 
 -- reading with a room of n bytes: answer and next reader
 unfoldable pub reading : Reader → List ℕ → ℕ → Step
@@ -97,8 +95,8 @@ read_room s c room = when_accepted (first_fault (read_checks s c (length room)))
 
 -- judging without room: an accepted container answers the header grant and MsgStart
 abbrev pub judge_answer_of : Verdict → Grant → ℕ → JudgeAnswer
-judge_answer_of Accepted grant msgstart = judge.Accepted grant msgstart
-judge_answer_of (Refused c p) grant msgstart = judge.Refused c p
+judge_answer_of (Ok _) grant msgstart = judge.Accepted grant msgstart
+judge_answer_of (Err fault) grant msgstart = judge.Refused fault.cause fault.place
 
 unfoldable pub judging : Reader → List ℕ → Judged
 judging s c = record {

@@ -1,9 +1,9 @@
 -- A mirror of the code's shape, not a rule: what is kept of a container instead of its bytes, numbers of the message in progress and a mark a granule.
-use Rattle.std.specs.Prelude.{ℕ, zero, suc, ◌+◌, ◌-◌, ◌*◌, ◌/◌, ◌%◌, ◌≤◌, ◌<◌, ◌≡◌, Bool, true, ◌&&◌, ◌||◌, List, [], ◌∷◌, ◌++◌, length, get_or, take, eqb, ltb, leb}
+use Rattle.std.specs.Prelude.{ℕ, zero, suc, ◌+◌, ◌-◌, ◌*◌, ◌/◌, ◌%◌, ◌≤◌, ◌<◌, ◌≡◌, Bool, true, ◌&&◌, ◌||◌, List, [], ◌∷◌, ◌++◌, length, get_or, take, eqb, ltb, leb, Result, Ok, Err}
 use Rattle.lists.specs.Pick.{pick}
-use Rattle.cause.specs.Checks.{Check, check, first_fault}
-use Rattle.cause.specs.declared.Verdict.{Verdict}
-use Rattle.cause.specs.declared.Verdict.TheVariants.{Accepted, Refused}
+use Rattle.cause.specs.Checks.{Check, check, first_fault, given, Verdict}
+use Rattle.cause.specs.declared.Cause.{Cause}
+use Rattle.cause.specs.declared.Fault.{Fault}
 use Rattle.cause.specs.declared.Cause.TheVariants.{GapInGroup, SecondMisc, TooManyResponses, GrantBesideActivation}
 use Rattle.container.specs.Layout.{Format, format_of, wide, granule, msg_start, bit}
 use Rattle.container.specs.Grants.{no_counts}
@@ -13,13 +13,8 @@ use Rattle.message.specs.Places.{responses, responses_by, miscs, miscs_by}
 use Rattle.placement.specs.Cells.{Cell, owed, cells}
 use Rattle.placement.specs.Checking.{populated, starting, activations, cell_checks, granule_checks, container_checks}
 use Rattle.reader.specs.declared.track.Track.{Track}
-use Rattle.reader.specs.declared.cell.CellAnswer.{CellAnswer}
-use Rattle.reader.specs.declared.cell.CellAnswer.TheVariants as judged
+use Rattle.reader.specs.declared.cell.Granule.{Granule}
 use Rattle.reader.specs.declared.scan.Scan.{Scan}
-
--- no message is in progress
-abbrev pub no_track : Track
-no_track = record { owed = 0; size = 0; from = 0; kept = 0 }
 
 -- a carried message m: all that was read of it is kept, and it goes on from granule 0
 abbrev pub track_of : List ℕ → Track
@@ -78,11 +73,11 @@ abbrev pub cell_from : Bool → Bool → List ℕ → Cell
 cell_from on st b = record { goes_on = on; starts = st; bytes = b }
 
 -- what judging a cell finds: its first fault, or its mark and the size of the message that starts, 0 for none
-abbrev pub cell_answer_of : Verdict → ℕ → ℕ → CellAnswer
-cell_answer_of Accepted n k = judged.Accepted n k
-cell_answer_of (Refused c p) n k = judged.Refused c
+abbrev pub cell_answer_of : Verdict → ℕ → ℕ → Result Granule Cause
+cell_answer_of (Ok _) n k = Ok (record { mark = n; size = k })
+cell_answer_of (Err fault) n k = Err fault.cause
 
-unfoldable pub cell_answer : Format → ℕ → Cell → CellAnswer
+unfoldable pub cell_answer : Format → ℕ → Cell → Result Granule Cause
 cell_answer fm g e = cell_answer_of (first_fault (cell_checks fm g e)) (mark_of e) (starting msg_size e)
 
 -- the mark of a cell where a message starts, by type and op
@@ -116,16 +111,17 @@ abbrev pub marks_of : List Cell → List ℕ
 marks_of [] = []
 marks_of (e ∷ es) = mark_of e ∷ marks_of es
 
--- what a scan of the granules gives: the first fault of a granule; and where there is none, the marks and the message in progress
-pub record Scanned (f : ℕ) (c m : List ℕ) (r : Scan) : Type 0 where
-  pub verdict : r.verdict ≡ first_fault (granule_checks (format_of f) 0 (cells (format_of f) c 12 0 m))
-  pub marks : r.verdict ≡ Accepted → r.marks ≡ marks_of (cells (format_of f) c 12 0 m)
-  pub track : r.verdict ≡ Accepted → r.track ≡ track_at (format_of f) c (msg_start (format_of f) c) (track_of m) 12
+-- what a scan of the granules gives: the first fault of a granule, or the marks and the message in progress
+abbrev pub scanned : ℕ → List ℕ → List ℕ → Result Scan Fault
+scanned f c m =
+    given (first_fault (granule_checks (format_of f) 0 (cells (format_of f) c 12 0 m)))
+    (record { marks = marks_of (cells (format_of f) c 12 0 m); track = track_at (format_of f) c (msg_start (format_of f) c) (track_of m) 12 })
 
--- what judging a whole container gives: its first fault; and where there is none, the message in progress
-pub record Looked (f : ℕ) (c m : List ℕ) (r : Scan) : Type 0 where
-  pub verdict : r.verdict ≡ first_fault (container_checks (format_of f) c (cells (format_of f) c 12 0 m))
-  pub track : r.verdict ≡ Accepted → r.track ≡ track_at (format_of f) c (msg_start (format_of f) c) (track_of m) 12
+-- what judging a whole container gives: its first fault, or the message in progress
+abbrev pub looked : ℕ → List ℕ → List ℕ → Result Track Fault
+looked f c m =
+    given (first_fault (container_checks (format_of f) c (cells (format_of f) c 12 0 m)))
+    (track_at (format_of f) c (msg_start (format_of f) c) (track_of m) 12)
 
 -- what was read of a message in progress is at least a granule
 abbrev pub Begun : List ℕ → Type 0

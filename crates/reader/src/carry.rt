@@ -21,16 +21,8 @@ pub struct Carry {
 fn is_carry(carry: &[u8]) -> bool
     ensures { result ≡ carry_ok carry.now }
 {
-    if carry.len() == 0 {
-        return true;
-    }
-    if carry.len() % WIDE != 0 {
-        return false;
-    }
-    if measure_message(carry) <= carry.len() {
-        return false;
-    }
-    is_well_headed(carry)
+    carry.is_empty()
+        || carry.len() % WIDE == 0 && carry.len() < measure_message(carry) && is_well_headed(carry)
 }
 
 impl Carry {
@@ -48,14 +40,6 @@ impl Carry {
     pub fn is_valid(self) -> bool
         ensures { result ≡ valid_carry self }
     {
-        let len = self.len;
-        let bytes = self.bytes;
-        if CARRY < len {
-            return false;
-        }
-        if is_carry(&bytes[0..len]) {
-            return is_zero(&bytes[len..]);
-        }
-        false
+        self.len <= CARRY && is_carry(&self.bytes[..self.len]) && is_zero(&self.bytes[self.len..])
     }
 }

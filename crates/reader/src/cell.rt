@@ -11,12 +11,11 @@ use message::{
 };
 use slices::{byte_at, is_zero, is_zero_from};
 
-// The answer of judging a granule: the mark that its group and the header are judged by and the size of the message that starts, 0 for none,
-// or the cause of the refusal.
-#[derive(Clone, Copy)]
-pub enum CellAnswer {
-    Accepted(u8, usize),
-    Refused(Cause),
+// A granule that is judged: the mark that its group and the header are judged by, and the size of the message that starts, 0 for none.
+#[derive(Clone, Copy, Debug, PartialEq, Eq)]
+pub struct Granule {
+    pub mark: u8,
+    pub size: usize,
 }
 
 // The mark of a granule where a message of this type and op starts.
@@ -31,7 +30,7 @@ fn mark_start(msgtype: u8, op: u8) -> u8
 }
 
 // A granule where a message starts and none goes on.
-fn judge_start(format: u32, g: u8, part: &[u8]) -> CellAnswer
+fn judge_start(format: u32, g: u8, part: &[u8]) -> Result<Granule, Cause>
     requires { (g < 12) × (length part.now ≡ (format_of format).size g) }
     ensures { result ≡ cell_answer (format_of format) g (cell_from false true part.now) }
 {
@@ -40,52 +39,49 @@ fn judge_start(format: u32, g: u8, part: &[u8]) -> CellAnswer
     let msgtype = byte0 % 16;
     let size = measure_code(msgtype, op);
     if size == 0 {
-        return CellAnswer::Refused(Cause::UnknownMessage);
+        return Err(Cause::UnknownMessage);
     }
     if !may_start(format, g, msgtype, op) {
-        return CellAnswer::Refused(Cause::PlaceNotAllowed);
+        return Err(Cause::PlaceNotAllowed);
     }
-    if !keeps_bytes(byte0, op, byte_at(part, 2)) {
-        return CellAnswer::Refused(Cause::HeadWrong);
-    }
-    if !keeps_grant(msgtype, op, part) {
-        return CellAnswer::Refused(Cause::HeadWrong);
+    if !keeps_bytes(byte0, op, byte_at(part, 2)) || !keeps_grant(msgtype, op, part) {
+        return Err(Cause::HeadWrong);
     }
     if !is_zero_from(part, size) {
-        return CellAnswer::Refused(Cause::UnusedByteNotZero);
+        return Err(Cause::UnusedByteNotZero);
     }
-    CellAnswer::Accepted(mark_start(msgtype, op), size)
+    Ok(Granule {
+        mark: mark_start(msgtype, op),
+        size,
+    })
 }
 
 // A granule of these bytes.
-fn judge_part(format: u32, g: u8, on: bool, start: bool, part: &[u8]) -> CellAnswer
+fn judge_part(format: u32, g: u8, on: bool, start: bool, part: &[u8]) -> Result<Granule, Cause>
     requires g_bound { (g < 12) × (length part.now ≡ (format_of format).size g) }
     requires g_value { on ≡ true → (format_of format).size g ≡ 20 }
     ensures { result ≡ cell_answer (format_of format) g (cell_from on start part.now) }
 {
     if on {
         if start {
-            return CellAnswer::Refused(Cause::StartInsideMessage);
+            return Err(Cause::StartInsideMessage);
         }
-        return CellAnswer::Accepted(1, 0);
+        return Ok(Granule { mark: 1, size: 0 });
     }
     if start {
         return judge_start(format, g, part);
     }
     if is_zero(part) {
-        return CellAnswer::Accepted(0, 0);
+        return Ok(Granule { mark: 0, size: 0 });
     }
-    CellAnswer::Refused(Cause::UnusedByteNotZero)
+    Err(Cause::UnusedByteNotZero)
 }
 
 // Whether a message of which so much is owed goes on in a granule of this size.
 fn goes_on(size: usize, owed: usize) -> bool
     ensures { result ≡ (ltb 0 owed && eqb size 20) }
 {
-    if 0 < owed {
-        return size == WIDE;
-    }
-    false
+    0 < owed && size == WIDE
 }
 
 // Granule g of a container, with so many bytes owed of the message in progress.
@@ -95,7 +91,7 @@ pub(crate) fn judge_cell(
     container: &[u8],
     owed: usize,
     g: u8,
-) -> CellAnswer
+) -> Result<Granule, Cause>
     requires { (length container.now ≡ 256) × (g < 12) }
     ensures { result ≡ cell_answer (format_of format) g (cell_from (ltb 0 owed && wide (format_of format) g) (bit msgstart g) (granule (format_of format) g container.now)) }
 {

@@ -1,5 +1,5 @@
 // Bytes of a message gathered from the granules that it lies in.
-ghost use Rattle.std.specs.Prelude.{◌≡◌, ◌+◌, ◌≤◌, length};
+ghost use Rattle.std.specs.Prelude.{◌≡◌, ◌+◌, ◌-◌, ◌≤◌, length};
 ghost use Rattle.lists.specs.Parts.{put};
 ghost use Rattle.container.specs.Layout.{format_of};
 ghost use Rattle.reader.specs.Reading.{carry_with};
@@ -10,30 +10,26 @@ use crate::track::Track;
 use container::{GRANULES, WIDE, locate_granule, measure_granule};
 use slices::copy_into;
 
-// Copies the wide ones among `count` granules from `from` on into lent memory from an offset on.
+// Copies the wide ones among the granules in a range into lent memory from an offset on.
 pub(crate) fn gather_granules(
     format: u32,
     container: &[u8],
     from: u8,
-    count: u8,
+    to: u8,
     out: &mut [u8],
     at: usize,
 )
-    requires container_len { (length container.now ≡ 256) × (from + count ≤ 12) }
-    requires count_in_bounds { at + length (gathered (format_of format) container.now from count) ≤ length out.old }
-    ensures { out.new ≡ put at (gathered (format_of format) container.now from count) out.old }
+    requires container_len { (length container.now ≡ 256) × (from ≤ to) × (to ≤ 12) }
+    requires count_in_bounds { at + length (gathered (format_of format) container.now from (to - from)) ≤ length out.old }
+    ensures { out.new ≡ put at (gathered (format_of format) container.now from (to - from)) out.old }
 {
-    let mut k: u8 = 0;
     let mut end = at;
-    while k < count {
-        let g = from + k;
+    for g in from..to {
         if measure_granule(format, g) == WIDE {
             let a = locate_granule(g);
-            let behind = a + WIDE;
-            copy_into(out, end, &container[a..behind]);
+            copy_into(out, end, &container[a..a + WIDE]);
             end += WIDE;
         }
-        k += 1;
     }
 }
 
@@ -52,10 +48,8 @@ pub(crate) fn gather_message(
     requires g_in_bounds { at + length (gathered_message (format_of format) container.now carry.now track g) ≤ length out.old }
     ensures { out.new ≡ put at (gathered_message (format_of format) container.now carry.now track g) out.old }
 {
-    let kept = track.kept;
-    let from = track.from as u8;
-    copy_into(out, at, &carry[0..kept]);
-    gather_granules(format, container, from, g - from, out, at + kept);
+    copy_into(out, at, &carry[..track.kept]);
+    gather_granules(format, container, track.from as u8, g, out, at + track.kept);
 }
 
 // What is carried on of the message in progress behind a container.
@@ -70,7 +64,7 @@ pub(crate) fn gather_carry(format: u32, container: &[u8], carry: &[u8], track: T
     let mut bytes = [0u8; CARRY];
     gather_message(format, container, carry, track, GRANULES, &mut bytes, 0);
     Carry {
-        bytes: bytes,
+        bytes,
         len: track.size - track.owed,
     }
 }

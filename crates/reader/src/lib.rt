@@ -12,4 +12,4 @@ mod scan;
 mod track;
 
 pub use carry::Carry;
-pub use reader::{Answer, Created, JudgeAnswer, Judged, ROOM, Reader, Step};
+pub use reader::{Answer, JudgeAnswer, Judged, ROOM, Reader, Step};

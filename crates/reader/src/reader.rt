@@ -1,19 +1,16 @@
 // The reader: a state by value, and the two ways to hand it a container.
-ghost use Rattle.std.specs.Prelude.{◌≡◌, true, length};
-ghost use Rattle.cause.specs.Checks.{first_fault, Pass};
+ghost use Rattle.std.specs.Prelude.{◌≡◌, true, [], length};
+ghost use Rattle.cause.specs.Checks.{first_fault, given};
 ghost use Rattle.container.specs.Layout.{format_of, msg_start};
-ghost use Rattle.placement.specs.Cells.{cells};
-ghost use Rattle.placement.specs.Checking.{granule_checks};
-ghost use Rattle.reader.specs.Reading.{reader_ok, carried, entry_checks, new_reader, next_reader, reading, read_room, judging};
-ghost use Rattle.reader.specs.TrackingMirror.{track_of, track_at};
+ghost use Rattle.container.specs.Grants.{header_grant};
+ghost use Rattle.reader.specs.Reading.{reader_ok, entry_checks, state_checks, reader_with, new_reader, next_reader, reading, read_room, judging};
 
 use crate::carry::Carry;
 use crate::gather::gather_carry;
 use crate::judge::judge_container;
 use crate::records::write_endings;
-use crate::track::Track;
-use cause::{Cause, Verdict};
-use container::{CONTAINER, Grant, read_grant, read_msgstart};
+use cause::{Cause, Fault, Verdict};
+use container::{CONTAINER, FORMATS, Grant, read_grant, read_msgstart};
 
 // What is carried, and a format.
 #[derive(Clone, Copy)]
@@ -53,43 +50,32 @@ pub struct Judged {
     pub answer: JudgeAnswer,
 }
 
-// A new reader, and whether its format is one.
-#[derive(Clone, Copy)]
-pub struct Created {
-    pub reader: Reader,
-    pub verdict: Verdict,
-}
-
 impl Reader {
+    // A reader of a format, with nothing carried; every entry refuses one of a number that is no format.
+    pub fn empty(format: u32) -> Reader
+        ensures { result ≡ reader_with format [] }
+    {
+        Reader {
+            carry: Carry::none(),
+            format,
+        }
+    }
+
     // A reader of a format, with nothing carried.
-    pub fn fresh(format: u32) -> Created
+    pub fn fresh(format: u32) -> Result<Reader, Fault>
         ensures { result ≡ new_reader format }
     {
-        let reader = Reader {
-            carry: Carry::none(),
-            format: format,
-        };
-        if format < 2 {
-            return Created {
-                reader: reader,
-                verdict: Verdict::Accepted,
-            };
+        if FORMATS <= format {
+            return Err(Cause::InvalidState.at(0));
         }
-        Created {
-            reader: reader,
-            verdict: Verdict::Refused(Cause::InvalidState, 0),
-        }
+        Ok(Reader::empty(format))
     }
 
     // Whether the state is valid.
     pub fn is_valid(self) -> bool
         ensures { result ≡ reader_ok self }
     {
-        if 2 <= self.format {
-            return false;
-        }
-        let carry = self.carry;
-        carry.is_valid()
+        self.format < FORMATS && self.carry.is_valid()
     }
 
     // The state and the length of a container: causes 19 and 1.
@@ -97,65 +83,38 @@ impl Reader {
         ensures { result ≡ first_fault (entry_checks self size) }
     {
         if !self.is_valid() {
-            return Verdict::Refused(Cause::InvalidState, 0);
+            return Err(Cause::InvalidState.at(0));
         }
         if size != CONTAINER {
-            return Verdict::Refused(Cause::ContainerLength, 0);
+            return Err(Cause::ContainerLength.at(0));
         }
-        Verdict::Accepted
+        Ok(())
     }
 
-    // The reader behind an accepted container.
-    fn carry_on(self, container: &[u8], track: Track) -> Reader
-        requires self_value { (reader_ok self ≡ true) × (length container.now ≡ 256) }
-        requires pass { Pass (granule_checks (format_of self.format) 0 (cells (format_of self.format) container.now 12 0 (carried self))) }
-        requires track_value { track ≡ track_at (format_of self.format) container.now (msg_start (format_of self.format) container.now) (track_of (carried self)) 12 }
-        ensures { result ≡ next_reader self container.now }
+    // The reader behind a container of 256 bytes, from a valid state, or the container's first fault.
+    fn accept(self, msgstart: u16, grant: Grant, container: &[u8]) -> Result<Reader, Fault>
+        requires valid { (reader_ok self ≡ true) × (length container.now ≡ 256) }
+        requires msgstart { msgstart ≡ msg_start (format_of self.format) container.now }
+        requires grant { grant ≡ header_grant (format_of self.format) container.now }
+        ensures { result ≡ given (first_fault (state_checks self container.now)) (next_reader self container.now) }
     {
-        let format = self.format;
-        let bytes = self.carry.bytes;
-        let len = self.carry.len;
-        let next = gather_carry(format, container, &bytes[0..len], track);
-        Reader {
-            carry: next,
-            format: format,
-        }
+        let carry = &self.carry.bytes[..self.carry.len];
+        let track = judge_container(self.format, msgstart, grant, container, carry)?;
+        Ok(Reader {
+            carry: gather_carry(self.format, container, carry, track),
+            ..self
+        })
     }
 
     // A refused judging.
-    fn refuse_judging(self, cause: Cause, place: u64) -> Judged
-        ensures { result ≡ record { reader = self; answer = JudgeAnswer.Refused cause place } }
+    fn refuse_judging(self, fault: Fault) -> Judged
+        ensures { result ≡ record { reader = self; answer = JudgeAnswer.Refused fault.cause fault.place } }
     {
         Judged {
             reader: self,
             answer: JudgeAnswer::Refused {
-                cause: cause,
-                place: place,
-            },
-        }
-    }
-
-    // A container of 256 bytes, from a valid state.
-    fn judge_valid(self, container: &[u8]) -> Judged
-        requires { (reader_ok self ≡ true) × (length container.now ≡ 256) }
-        ensures { result ≡ judging self container.now }
-    {
-        let format = self.format;
-        let bytes = self.carry.bytes;
-        let len = self.carry.len;
-        let msgstart = read_msgstart(format, container);
-        let grant = read_grant(format, container);
-        let scan = judge_container(format, msgstart, grant, container, &bytes[0..len]);
-        let verdict = scan.verdict;
-        if let Verdict::Refused(cause, place) = verdict {
-            return self.refuse_judging(cause, place);
-        }
-        let track = scan.track;
-        Judged {
-            reader: self.carry_on(container, track),
-            answer: JudgeAnswer::Accepted {
-                grant: grant,
-                msgstart: msgstart,
+                cause: fault.cause,
+                place: fault.place,
             },
         }
     }
@@ -164,22 +123,29 @@ impl Reader {
     pub fn judge(self, container: &[u8]) -> Judged
         ensures { result ≡ judging self container.now }
     {
-        let entry = self.check_entry(container.len());
-        if let Verdict::Refused(cause, place) = entry {
-            return self.refuse_judging(cause, place);
+        if let Err(fault) = self.check_entry(container.len()) {
+            return self.refuse_judging(fault);
         }
-        self.judge_valid(container)
+        let msgstart = read_msgstart(self.format, container);
+        let grant = read_grant(self.format, container);
+        match self.accept(msgstart, grant, container) {
+            Err(fault) => self.refuse_judging(fault),
+            Ok(reader) => Judged {
+                reader,
+                answer: JudgeAnswer::Accepted { grant, msgstart },
+            },
+        }
     }
 
     // A refused reading.
-    fn refuse(self, cause: Cause, place: u64) -> Step
-        ensures { result ≡ record { reader = self; answer = Answer.Refused cause place } }
+    fn refuse(self, fault: Fault) -> Step
+        ensures { result ≡ record { reader = self; answer = Answer.Refused fault.cause fault.place } }
     {
         Step {
             reader: self,
             answer: Answer::Refused {
-                cause: cause,
-                place: place,
+                cause: fault.cause,
+                place: fault.place,
             },
         }
     }
@@ -189,29 +155,22 @@ impl Reader {
         ensures step { result ≡ reading self container.now (length room.old) }
         ensures room { room.new ≡ read_room self container.now room.old }
     {
-        let entry = self.check_entry(container.len());
-        if let Verdict::Refused(cause, place) = entry {
-            return self.refuse(cause, place);
+        if let Err(fault) = self.check_entry(container.len()) {
+            return self.refuse(fault);
         }
         if room.len() < ROOM {
-            return self.refuse(Cause::RoomTooSmall, 0);
+            return self.refuse(Cause::RoomTooSmall.at(0));
         }
-        let judged = self.judge_valid(container);
-        let answer = judged.answer;
-        match answer {
-            JudgeAnswer::Refused { cause, place } => self.refuse(cause, place),
-            JudgeAnswer::Accepted { grant, msgstart } => {
-                let format = self.format;
-                let bytes = self.carry.bytes;
-                let len = self.carry.len;
-                let written = write_endings(format, msgstart, container, &bytes[0..len], room);
-                let next = judged.reader;
+        let msgstart = read_msgstart(self.format, container);
+        let grant = read_grant(self.format, container);
+        match self.accept(msgstart, grant, container) {
+            Err(fault) => self.refuse(fault),
+            Ok(reader) => {
+                let carry = &self.carry.bytes[..self.carry.len];
+                let written = write_endings(self.format, msgstart, container, carry, room);
                 Step {
-                    reader: next,
-                    answer: Answer::Accepted {
-                        written: written,
-                        grant: grant,
-                    },
+                    reader,
+                    answer: Answer::Accepted { written, grant },
                 }
             }
         }

@@ -66,13 +66,11 @@ fn write_ending(
     ensures room { room.new ≡ put at (records_of (ended_by (format_of format) container.now carry.now msgstart track g)) room.old }
 {
     let width = measure_granule(format, g);
-    if 0 < track.owed {
-        if width == WIDE {
-            if track.owed <= WIDE {
-                return write_long(format, container, carry, track, g, room, at);
-            }
-            return at;
+    if 0 < track.owed && width == WIDE {
+        if track.owed <= WIDE {
+            return write_long(format, container, carry, track, g, room, at);
         }
+        return at;
     }
     if !starts_at(msgstart, g) {
         return at;
@@ -101,11 +99,9 @@ pub(crate) fn write_endings(
 {
     let mut track = Track::carried(carry);
     let mut at = 0;
-    let mut g: u8 = 0;
-    while g < GRANULES {
+    for g in 0..GRANULES {
         at = write_ending(format, msgstart, container, carry, track, g, room, at);
         track = track.pass(format, msgstart, container, g);
-        g += 1;
     }
     at
 }

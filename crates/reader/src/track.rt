@@ -2,14 +2,14 @@
 ghost use Rattle.std.specs.Prelude.{◌≡◌, ◌<◌, ◌-◌, length};
 ghost use Rattle.lists.specs.Pick.{pick};
 ghost use Rattle.container.specs.Layout.{format_of, wide};
-ghost use Rattle.reader.specs.TrackingMirror.{no_track, track_of, track_by, track_after};
+ghost use Rattle.reader.specs.TrackingMirror.{track_of, track_by, track_after};
 
 use container::{WIDE, locate_granule, measure_granule, starts_at};
 use message::measure_message;
 
 // What is owed of it, its size, the granule from which on it is read, and how many bytes of the old carry belong to it. No message is in
 // progress where nothing is owed.
-#[derive(Clone, Copy)]
+#[derive(Clone, Copy, Debug, PartialEq, Eq)]
 pub struct Track {
     pub owed: usize,
     pub size: usize,
@@ -17,40 +17,17 @@ pub struct Track {
     pub kept: usize,
 }
 
-// What is left of so many bytes when some are read, 0 where none is left.
-fn count_rest(bytes: usize, read: usize) -> usize
-    ensures { result ≡ bytes - read }
-{
-    if bytes < read {
-        return 0;
-    }
-    bytes - read
-}
-
 impl Track {
-    // No message is in progress.
-    pub fn none() -> Track
-        ensures { result ≡ no_track }
-    {
-        Track {
-            owed: 0,
-            size: 0,
-            from: 0,
-            kept: 0,
-        }
-    }
-
     // A message that is carried in.
     pub fn carried(carry: &[u8]) -> Track
         ensures { result ≡ track_of carry.now }
     {
         let size = measure_message(carry);
-        let kept = carry.len();
         Track {
-            owed: count_rest(size, kept),
-            size: size,
+            owed: size.saturating_sub(carry.len()),
+            size,
             from: 0,
-            kept: kept,
+            kept: carry.len(),
         }
     }
 
@@ -62,10 +39,8 @@ impl Track {
             return self;
         }
         Track {
-            owed: count_rest(self.owed, WIDE),
-            size: self.size,
-            from: self.from,
-            kept: self.kept,
+            owed: self.owed.saturating_sub(WIDE),
+            ..self
         }
     }
 
@@ -77,8 +52,8 @@ impl Track {
             return self;
         }
         Track {
-            owed: count_rest(size, WIDE),
-            size: size,
+            owed: size.saturating_sub(WIDE),
+            size,
             from: g as usize,
             kept: 0,
         }

@@ -1,8 +1,7 @@
 -- The edges of what is a number, by computation. Assumes nothing.
 use mathlib.Core.Path.{◌≡◌, refl}
 use mathlib.Core.List.{[], ◌∷◌}
-use Rattle.record.specs.Number.{read_number}
-use Rattle.record.specs.declared.number.Number.TheVariants.{Broken, Value}
+use Rattle.record.specs.Number.{read_number, Broken, Value}
 
 -- the largest number, one over it, a sixth group, and a number that the list cuts short
 pub largest_read : read_number (0xFF ∷ 0xFF ∷ 0xFF ∷ 0xFF ∷ 0x0F ∷ []) ≡ Value 4_294_967_295 5

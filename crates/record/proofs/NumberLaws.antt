@@ -1,6 +1,6 @@
 -- Reading a number and writing it are inverse to each other, and what is no number is broken. Assumes nothing.
 use Prim.Native.Nat.{ℕ, zero, suc, ◌+◌, ◌-◌, ◌*◌, ◌/◌, ◌%◌, ◌^◌, ◌≤◌, ◌<◌}
-use mathlib.Core.Path.{◌≡◌, refl, ap, ◌∙◌}
+use mathlib.Core.Path.{◌≡◌, refl, sym, ap, ◌∙◌}
 use mathlib.Core.Bool.{true, false}
 use mathlib.Core.List.{List, [], ◌∷◌, ◌++◌}
 use mathlib.Core.Logic.{⊎_elim}
@@ -14,9 +14,9 @@ use Rattle.lists.specs.Pick.{pick}
 use Rattle.lists.specs.Parts.{IsBytes}
 use Rattle.lists.proofs.Tests.{cases}
 use Rattle.lists.proofs.PickLaws.{pick_both}
-use Rattle.record.specs.Number.{largest, groups, number, used_of, joined, read_groups, read_number}
+use Rattle.record.specs.Number.{largest, groups, number, used_of, joined, read_groups, read_number, Broken, Value}
 use Rattle.record.specs.declared.number.Number.{Number}
-use Rattle.record.specs.declared.number.Number.TheVariants.{Broken, Value}
+use Rattle.std.specs.Prelude.{Option, Some, None}
 
 -- ---- one step of reading, as the code takes it
 
@@ -31,17 +31,17 @@ groups_some zero l d e = absurd (d refl)
 groups_some (suc k) [] d e = absurd (e refl)
 groups_some (suc k) (b ∷ l) d e = rw (sub-one (suc k))
 
-used_joined : (low : ℕ) (r : Number) (k : ℕ) → used_of r ≤ k → used_of (joined low r) ≤ suc k
-used_joined low Broken k p = omega arith
-used_joined low (Value n used) k p =
-    pick_both (λ (x : Number). used_of x ≤ suc k) (eqb n 0) {a = Broken} {b = pick (leb (low % 128 + 128 * n) largest) (Value (low % 128 + 128 * n) (used + 1)) Broken} (omega arith)
-    (pick_both (λ (x : Number). used_of x ≤ suc k) (leb (low % 128 + 128 * n) largest) {a = Value (low % 128 + 128 * n) (used + 1)} {b = Broken} (omega arith) (omega arith))
+used_joined : (low : ℕ) (r : Option Number) (k : ℕ) → used_of r ≤ k → used_of (joined low r) ≤ suc k
+used_joined low None k p = omega arith
+used_joined low (Some number) k p =
+    pick_both (λ (x : Option Number). used_of x ≤ suc k) (eqb number.value 0) {a = Broken} {b = pick (leb (low % 128 + 128 * number.value) largest) (Value (low % 128 + 128 * number.value) (number.used + 1)) Broken} (omega arith)
+    (pick_both (λ (x : Option Number). used_of x ≤ suc k) (leb (low % 128 + 128 * number.value) largest) {a = Value (low % 128 + 128 * number.value) (number.used + 1)} {b = Broken} (omega arith) (omega arith))
 
 pub used_groups : (k : ℕ) (l : List ℕ) → used_of (read_groups k l) ≤ k
 used_groups zero l = omega arith
 used_groups (suc k) [] = omega arith
 used_groups (suc k) (b ∷ l) =
-    pick_both (λ (x : Number). used_of x ≤ suc k) (ltb b 128) {a = Value b 1} {b = joined b (read_groups k l)} (omega arith) (used_joined b (read_groups k l) k (used_groups k l))
+    pick_both (λ (x : Option Number). used_of x ≤ suc k) (ltb b 128) {a = Value b 1} {b = joined b (read_groups k l)} (omega arith) (used_joined b (read_groups k l) k (used_groups k l))
 
 -- ---- what was written is read
 
@@ -81,25 +81,37 @@ pub number_small : (n : ℕ) → n < 128 → number n ≡ n ∷ []
 unfolding number
 number_small n h = rw (lt-ltb n 128 h)
 
+-- the number of what was read, or another one
+number_or : Number → Option Number → Number
+number_or other None = other
+number_or other (Some number) = number
+
+-- two numbers that are one have one value and one length
+pub value_same : (a n b u : ℕ) → Value a b ≡ Value n u → (a ≡ n) × (b ≡ u)
+unfolding number_or
+value_same a n b u e =
+    let same : record { value = a; used = b } ≡ record { value = n; used = u } = ap (number_or (record { value = a; used = b })) e in
+    (ap (λ (x : Number). x.value) same, ap (λ (x : Number). x.used) same)
+
 -- groups behind a byte whose top bit is set make the number at least 128
-joined_large : (low : ℕ) (r : Number) (n u : ℕ) → joined low r ≡ Value n u → 128 ≤ n
-joined_large low Broken n u e = let z : ◌≡◌ {A = ℕ} 0 1 = cc in absurd (omega arith)
-joined_large low (Value v q) n u e = ⊎_elim longer other (cases (eqb v 0))
+joined_large : (low : ℕ) (r : Option Number) (n u : ℕ) → joined low r ≡ Value n u → 128 ≤ n
+joined_large low None n u e = let z : ◌≡◌ {A = ℕ} 0 1 = cc in absurd (omega arith)
+joined_large low (Some number) n u e = ⊎_elim longer other (cases (eqb number.value 0))
   where
-    longer : eqb v 0 ≡ true → 128 ≤ n
+    longer : eqb number.value 0 ≡ true → 128 ≤ n
     longer t = let f : Broken ≡ Value n u = rw t at e in let z : ◌≡◌ {A = ℕ} 0 1 = cc in absurd (omega arith)
 
-    other : eqb v 0 ≡ false → 128 ≤ n
-    other t = ⊎_elim fits over (cases (leb (low % 128 + 128 * v) largest))
+    other : eqb number.value 0 ≡ false → 128 ≤ n
+    other t = ⊎_elim fits over (cases (leb (low % 128 + 128 * number.value) largest))
       where
-        over : leb (low % 128 + 128 * v) largest ≡ false → 128 ≤ n
+        over : leb (low % 128 + 128 * number.value) largest ≡ false → 128 ≤ n
         over x = let f : Broken ≡ Value n u = rw (t, x) at e in let z : ◌≡◌ {A = ℕ} 0 1 = cc in absurd (omega arith)
 
-        fits : leb (low % 128 + 128 * v) largest ≡ true → 128 ≤ n
+        fits : leb (low % 128 + 128 * number.value) largest ≡ true → 128 ≤ n
         fits x =
-            let f : Value (low % 128 + 128 * v) (q + 1) ≡ Value n u = rw (t, x) at e in
-            let en : low % 128 + 128 * v ≡ n = cc in
-            let d = eqb-false v 0 t in
+            let f : Value (low % 128 + 128 * number.value) (number.used + 1) ≡ Value n u = rw (t, x) at e in
+            let en = (value_same _ _ _ _ f).0 in
+            let d = eqb-false number.value 0 t in
             omega arith
 
 groups_small : (k : ℕ) (l : List ℕ) (n u : ℕ) → read_groups k l ≡ Value n u → n < 128 → u ≡ 1
@@ -108,7 +120,7 @@ groups_small (suc k) [] n u e h = let z : ◌≡◌ {A = ℕ} 0 1 = cc in absurd
 groups_small (suc k) (b ∷ l) n u e h = ⊎_elim one several (cases (ltb b 128))
   where
     one : ltb b 128 ≡ true → u ≡ 1
-    one t = let f : Value b 1 ≡ Value n u = rw t at e in cc
+    one t = let f : Value b 1 ≡ Value n u = rw t at e in sym (value_same _ _ _ _ f).1
 
     several : ltb b 128 ≡ false → u ≡ 1
     several t =
@@ -136,33 +148,33 @@ more_groups k d v h nz =
     let quo : (d + 128 * v) / 128 ≡ v = omega arith in
     simp (le-ltb (d + 128 * v) 128 big, rem, quo)
 
-more_stands : (k b : ℕ) (l : List ℕ) → 128 ≤ b → b < 256 → (s : Number) → ((v u : ℕ) → s ≡ Value v u → Stands k l v u)
+more_stands : (k b : ℕ) (l : List ℕ) → 128 ≤ b → b < 256 → (s : Option Number) → ((v u : ℕ) → s ≡ Value v u → Stands k l v u)
     → (n u : ℕ) → joined b s ≡ Value n u → Stands (suc k) (b ∷ l) n u
-more_stands k b l lo hi Broken ih n u e = let z : ◌≡◌ {A = ℕ} 0 1 = cc in absurd (omega arith)
-more_stands k b l lo hi (Value v q) ih n u e = ⊎_elim longer other (cases (eqb v 0))
+more_stands k b l lo hi None ih n u e = let z : ◌≡◌ {A = ℕ} 0 1 = cc in absurd (omega arith)
+more_stands k b l lo hi (Some number) ih n u e = ⊎_elim longer other (cases (eqb number.value 0))
   where
-    longer : eqb v 0 ≡ true → Stands (suc k) (b ∷ l) n u
+    longer : eqb number.value 0 ≡ true → Stands (suc k) (b ∷ l) n u
     longer t = let f : Broken ≡ Value n u = rw t at e in let z : ◌≡◌ {A = ℕ} 0 1 = cc in absurd (omega arith)
 
-    other : eqb v 0 ≡ false → Stands (suc k) (b ∷ l) n u
-    other t = ⊎_elim fits over (cases (leb (b % 128 + 128 * v) largest))
+    other : eqb number.value 0 ≡ false → Stands (suc k) (b ∷ l) n u
+    other t = ⊎_elim fits over (cases (leb (b % 128 + 128 * number.value) largest))
       where
-        over : leb (b % 128 + 128 * v) largest ≡ false → Stands (suc k) (b ∷ l) n u
+        over : leb (b % 128 + 128 * number.value) largest ≡ false → Stands (suc k) (b ∷ l) n u
         over x = let f : Broken ≡ Value n u = rw (t, x) at e in let z : ◌≡◌ {A = ℕ} 0 1 = cc in absurd (omega arith)
 
-        fits : leb (b % 128 + 128 * v) largest ≡ true → Stands (suc k) (b ∷ l) n u
+        fits : leb (b % 128 + 128 * number.value) largest ≡ true → Stands (suc k) (b ∷ l) n u
         fits x =
-            let f : Value (b % 128 + 128 * v) (q + 1) ≡ Value n u = rw (t, x) at e in
-            let en : b % 128 + 128 * v ≡ n = cc in
-            let eu : q + 1 ≡ u = cc in
+            let f : Value (b % 128 + 128 * number.value) (number.used + 1) ≡ Value n u = rw (t, x) at e in
+            let en = (value_same _ _ _ _ f).0 in
+            let eu = (value_same _ _ _ _ f).1 in
             let back : 128 + b % 128 ≡ b = omega arith in
-            let g : groups (suc k) n ≡ b ∷ groups k v = rw (← en, more_groups k (b % 128) v (omega arith) (eqb-false v 0 t), back) in
-            let h = ih v q refl in
-            rw (← eu, add-one q)
+            let g : groups (suc k) n ≡ b ∷ groups k number.value = rw (← en, more_groups k (b % 128) number.value (omega arith) (eqb-false number.value 0 t), back) in
+            let h = ih number.value number.used refl in
+            rw (← eu, add-one number.used)
             (record {
               front = rw g (ap (λ (r : List ℕ). b ∷ r) h.front);
               bytes = rw g (ap suc h.bytes);
-              small = rw (← en) (leb-true (b % 128 + 128 * v) largest x);
+              small = rw (← en) (leb-true (b % 128 + 128 * number.value) largest x);
             })
 
 groups_stand : (k : ℕ) (l : List ℕ) → IsBytes l → (n u : ℕ) → read_groups k l ≡ Value n u → Stands k l n u
@@ -173,8 +185,8 @@ groups_stand (suc k) (b ∷ l) h n u e = ⊎_elim one (several (groups_stand k l
     one : ltb b 128 ≡ true → Stands (suc k) (b ∷ l) n u
     one t =
         let f : Value b 1 ≡ Value n u = rw t at e in
-        let en : b ≡ n = cc in
-        let eu : 1 ≡ u = cc in
+        let en = (value_same _ _ _ _ f).0 in
+        let eu = (value_same _ _ _ _ f).1 in
         let less : b < 128 = ltb-true b 128 t in
         rw (← en, ← eu) (record { front = rw t; bytes = rw t; small = omega arith })
 
@@ -225,44 +237,44 @@ abbrev pub value_of : List ℕ → ℕ
 value_of [] = 0
 value_of (b ∷ l) = b % 128 + 128 * value_of l
 
-no_value : (r : Number) → ((n u : ℕ) → r ≡ Value n u → ⊥) → r ≡ Broken
-no_value Broken h = refl
-no_value (Value n u) h = absurd (h n u refl)
+no_value : (r : Option Number) → ((n u : ℕ) → r ≡ Value n u → ⊥) → r ≡ Broken
+no_value None h = refl
+no_value (Some number) h = absurd (h number.value number.used refl)
 
 value_read : (k : ℕ) (more : List ℕ) (b : ℕ) (l : List ℕ) → Continue more → b < 128 → (n u : ℕ)
     → read_groups k (more ++ (b ∷ l)) ≡ Value n u → (n ≡ value_of (more ++ (b ∷ []))) × (n ≤ largest)
 value_read zero more b l h s n u e = let z : ◌≡◌ {A = ℕ} 0 1 = cc in absurd (omega arith)
 value_read (suc k) [] b l h s n u e =
     let f : Value b 1 ≡ Value n u = rw (lt-ltb b 128 s) at e in
-    let en : b ≡ n = cc in
+    let en = (value_same _ _ _ _ f).0 in
     (omega arith, omega arith)
 value_read (suc k) (a ∷ more) b l h s n u e =
     let f : joined a (read_groups k (more ++ (b ∷ l))) ≡ Value n u = rw (le-ltb a 128 h.0) at e in
     behind (read_groups k (more ++ (b ∷ l))) (λ v q. value_read k more b l h.1 s v q) f
   where
-    behind : (r : Number) → ((v q : ℕ) → r ≡ Value v q → (v ≡ value_of (more ++ (b ∷ []))) × (v ≤ largest)) → joined a r ≡ Value n u
+    behind : (r : Option Number) → ((v q : ℕ) → r ≡ Value v q → (v ≡ value_of (more ++ (b ∷ []))) × (v ≤ largest)) → joined a r ≡ Value n u
         → (n ≡ a % 128 + 128 * value_of (more ++ (b ∷ []))) × (n ≤ largest)
-    behind Broken ih f = let z : ◌≡◌ {A = ℕ} 0 1 = cc in absurd (omega arith)
-    behind (Value v q) ih f = ⊎_elim longer other (cases (eqb v 0))
+    behind None ih f = let z : ◌≡◌ {A = ℕ} 0 1 = cc in absurd (omega arith)
+    behind (Some number) ih f = ⊎_elim longer other (cases (eqb number.value 0))
       where
         Goal : Type 0
         Goal = (n ≡ a % 128 + 128 * value_of (more ++ (b ∷ []))) × (n ≤ largest)
 
-        longer : eqb v 0 ≡ true → Goal
+        longer : eqb number.value 0 ≡ true → Goal
         longer t = let g : Broken ≡ Value n u = rw t at f in let z : ◌≡◌ {A = ℕ} 0 1 = cc in absurd (omega arith)
 
-        other : eqb v 0 ≡ false → Goal
-        other t = ⊎_elim fits over (cases (leb (a % 128 + 128 * v) largest))
+        other : eqb number.value 0 ≡ false → Goal
+        other t = ⊎_elim fits over (cases (leb (a % 128 + 128 * number.value) largest))
           where
-            over : leb (a % 128 + 128 * v) largest ≡ false → Goal
+            over : leb (a % 128 + 128 * number.value) largest ≡ false → Goal
             over x = let g : Broken ≡ Value n u = rw (t, x) at f in let z : ◌≡◌ {A = ℕ} 0 1 = cc in absurd (omega arith)
 
-            fits : leb (a % 128 + 128 * v) largest ≡ true → Goal
+            fits : leb (a % 128 + 128 * number.value) largest ≡ true → Goal
             fits x =
-                let g : Value (a % 128 + 128 * v) (q + 1) ≡ Value n u = rw (t, x) at f in
-                let en : a % 128 + 128 * v ≡ n = cc in
-                let ev : v ≡ value_of (more ++ (b ∷ [])) = (ih v q refl).0 in
-                let le : a % 128 + 128 * v ≤ largest = leb-true (a % 128 + 128 * v) largest x in
+                let g : Value (a % 128 + 128 * number.value) (number.used + 1) ≡ Value n u = rw (t, x) at f in
+                let en = (value_same _ _ _ _ g).0 in
+                let ev : number.value ≡ value_of (more ++ (b ∷ [])) = (ih number.value number.used refl).0 in
+                let le : a % 128 + 128 * number.value ≤ largest = leb-true (a % 128 + 128 * number.value) largest x in
                 (omega arith, omega arith)
 
 -- a value over the largest

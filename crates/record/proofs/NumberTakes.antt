@@ -7,24 +7,24 @@ use native.Mathlib.Omega.{arith}
 use lib.ListN.{length}
 use lib.Dec.{eqb, ltb, leb}
 use Rattle.lists.specs.Pick.{pick}
-use Rattle.record.specs.Number.{largest, joined, read_groups, read_number}
+use Rattle.record.specs.Number.{largest, joined, read_groups, read_number, Broken, Value}
 use Rattle.record.specs.declared.number.Number.{Number}
-use Rattle.record.specs.declared.number.Number.TheVariants.{Broken, Value}
+use Rattle.std.specs.Prelude.{Option, Some, None}
 
 -- a number that is read takes a byte, and no more than are allowed and there
-abbrev pub Takes : Number → ℕ → ℕ → Type 0
-Takes Broken n m = Unit {0}
-Takes (Value v u) n m = (1 ≤ u) × ((u ≤ n) × (u ≤ m))
+abbrev pub Takes : Option Number → ℕ → ℕ → Type 0
+Takes None n m = Unit {0}
+Takes (Some number) n m = (1 ≤ number.used) × ((number.used ≤ n) × (number.used ≤ m))
 
-takes_pick : (t : Bool) (a b : Number) (n m : ℕ) → Takes a n m → Takes b n m → Takes (pick t a b) n m
+takes_pick : (t : Bool) (a b : Option Number) (n m : ℕ) → Takes a n m → Takes b n m → Takes (pick t a b) n m
 takes_pick true a b n m p q = p
 takes_pick false a b n m p q = q
 
-takes_joined : (low : ℕ) (r : Number) (n m : ℕ) → Takes r n m → Takes (joined low r) (suc n) (suc m)
-takes_joined low Broken n m p = tt
-takes_joined low (Value v u) n m p =
-    takes_pick (eqb v 0) Broken (pick (leb (low % 128 + 128 * v) largest) (Value (low % 128 + 128 * v) (u + 1)) Broken) (suc n) (suc m) tt
-    (takes_pick (leb (low % 128 + 128 * v) largest) (Value (low % 128 + 128 * v) (u + 1)) Broken (suc n) (suc m)
+takes_joined : (low : ℕ) (r : Option Number) (n m : ℕ) → Takes r n m → Takes (joined low r) (suc n) (suc m)
+takes_joined low None n m p = tt
+takes_joined low (Some number) n m p =
+    takes_pick (eqb number.value 0) Broken (pick (leb (low % 128 + 128 * number.value) largest) (Value (low % 128 + 128 * number.value) (number.used + 1)) Broken) (suc n) (suc m) tt
+    (takes_pick (leb (low % 128 + 128 * number.value) largest) (Value (low % 128 + 128 * number.value) (number.used + 1)) Broken (suc n) (suc m)
     (omega arith, (omega arith, omega arith)) tt)
 
 takes_groups : (n : ℕ) (l : List ℕ) → Takes (read_groups n l) n (length l)
@@ -45,7 +45,7 @@ number_takes l v u e = rw e at (takes_number l)
 groups_append : (n : ℕ) (l m : List ℕ) → n ≤ length l → read_groups n (l ++ m) ≡ read_groups n l
 groups_append zero l m h = refl
 groups_append (suc n) [] m h = absurd (omega arith)
-groups_append (suc n) (b ∷ l) m h = ap (λ (r : Number). pick (ltb b 128) (Value b 1) (joined b r)) (groups_append n l m (omega arith))
+groups_append (suc n) (b ∷ l) m h = ap (λ (r : Option Number). pick (ltb b 128) (Value b 1) (joined b r)) (groups_append n l m (omega arith))
 
 pub number_append : (l m : List ℕ) → 5 ≤ length l → read_number (l ++ m) ≡ read_number l
 unfolding read_number
@@ -55,11 +55,11 @@ no_value : (v u : ℕ) → Broken ≡ Value v u → ⊥
 no_value v u e = let z : ◌≡◌ {A = ℕ} 0 1 = cc in omega arith
 
 -- a number that is there stays, whatever follows
-stays : (t : Bool) (b : ℕ) (r s : Number) (v u : ℕ) → ((x y : ℕ) → r ≡ Value x y → s ≡ Value x y)
+stays : (t : Bool) (b : ℕ) (r s : Option Number) (v u : ℕ) → ((x y : ℕ) → r ≡ Value x y → s ≡ Value x y)
     → pick t (Value b 1) (joined b r) ≡ Value v u → pick t (Value b 1) (joined b s) ≡ Value v u
 stays true b r s v u h e = e
-stays false b Broken s v u h e = absurd (no_value v u e)
-stays false b (Value x y) s v u h e = ap (λ (q : Number). joined b q) (h x y refl) ∙ e
+stays false b None s v u h e = absurd (no_value v u e)
+stays false b (Some number) s v u h e = ap (λ (q : Option Number). joined b q) (h number.value number.used refl) ∙ e
 
 groups_stay : (n : ℕ) (l m : List ℕ) (v u : ℕ) → read_groups n l ≡ Value v u → read_groups n (l ++ m) ≡ Value v u
 groups_stay zero l m v u e = absurd (no_value v u e)

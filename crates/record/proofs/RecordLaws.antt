@@ -12,19 +12,19 @@ use borrow.Author.Tests.{ltb-true, leb-true, le-leb, lt-leb}
 use Rattle.lists.specs.Parts.{part, IsBytes}
 use Rattle.lists.proofs.Tests.{cases, and_left, and_right}
 use Rattle.lists.proofs.PartLaws.{length_part, length_zero, rest_is, bytes_drop}
-use Rattle.cause.specs.declared.Verdict.{Verdict}
-use Rattle.cause.specs.declared.Verdict.TheVariants.{Accepted, Refused}
 use Rattle.cause.specs.declared.Cause.{Cause}
 use Rattle.cause.specs.declared.Cause.TheVariants.{BrokenRecord}
 use Rattle.message.specs.Heads.{is_message, msg_size}
 use Rattle.message.proofs.HeadLaws.{is_message_law, size_most}
-use Rattle.record.specs.Number.{largest, number, read_number}
+use Rattle.record.specs.Number.{largest, number, read_number, Value}
 use Rattle.record.specs.Records.{record_of, records_of, AllMessages, cut, first_of, message_of, onward, fault_from, list_fault}
 use Rattle.record.specs.declared.number.Number.{Number}
-use Rattle.record.specs.declared.number.Number.TheVariants.{Broken, Value}
 use Rattle.record.specs.declared.list.First.{First}
 use Rattle.record.specs.declared.list.First.TheVariants.{Empty, Bad, Whole}
 use Rattle.record.proofs.NumberLaws.{Stands, read_written, written_read, read_small}
+use Rattle.cause.proofs.FaultLaws.{refused_by, refused_at}
+use Rattle.cause.specs.Checks.{Verdict, Accepted, Refused}
+use Rattle.std.specs.Prelude.{Option, Some, None}
 
 -- ---- the first record
 
@@ -40,47 +40,47 @@ pub message_some : (m : List ℕ) → is_message m ≡ true → 0 < length m
 message_some m e = let h = is_message_law m e in let s = h.sized in let k = ltb-true 0 (msg_size m) h.is_known in omega arith
 
 -- a record that was cut lies inside the list
-cut_within : (l : List ℕ) (r : Number) (start end : ℕ) → cut l r ≡ Whole start end → (start < end) × (end ≤ length l)
-cut_within l Broken start end q = let z : ◌≡◌ {A = ℕ} 0 1 = cc in absurd (omega arith)
-cut_within l (Value n u) start end q = ⊎_elim yes no (cases (leb (u + n) (length l) && is_message (part u n l)))
+cut_within : (l : List ℕ) (r : Option Number) (start end : ℕ) → cut l r ≡ Whole start end → (start < end) × (end ≤ length l)
+cut_within l None start end q = let z : ◌≡◌ {A = ℕ} 0 1 = cc in absurd (omega arith)
+cut_within l (Some number) start end q = ⊎_elim yes no (cases (leb (number.used + number.value) (length l) && is_message (part number.used number.value l)))
   where
-    no : (leb (u + n) (length l) && is_message (part u n l)) ≡ false → (start < end) × (end ≤ length l)
+    no : (leb (number.used + number.value) (length l) && is_message (part number.used number.value l)) ≡ false → (start < end) × (end ≤ length l)
     no t = let f : Bad ≡ Whole start end = rw t at q in let z : ◌≡◌ {A = ℕ} 0 1 = cc in absurd (omega arith)
 
-    yes : (leb (u + n) (length l) && is_message (part u n l)) ≡ true → (start < end) × (end ≤ length l)
+    yes : (leb (number.used + number.value) (length l) && is_message (part number.used number.value l)) ≡ true → (start < end) × (end ≤ length l)
     yes t =
-        let f : Whole u (u + n) ≡ Whole start end = rw t at q in
-        let es : u ≡ start = cc in
-        let ee : u + n ≡ end = cc in
-        let fits : u + n ≤ length l = leb-true (u + n) (length l) (and_left (leb (u + n) (length l)) (is_message (part u n l)) t) in
-        let len : length (part u n l) ≡ n = length_part u n l fits in
-        let some = message_some (part u n l) (and_right (leb (u + n) (length l)) (is_message (part u n l)) t) in
+        let f : Whole number.used (number.used + number.value) ≡ Whole start end = rw t at q in
+        let es : number.used ≡ start = cc in
+        let ee : number.used + number.value ≡ end = cc in
+        let fits : number.used + number.value ≤ length l = leb-true (number.used + number.value) (length l) (and_left (leb (number.used + number.value) (length l)) (is_message (part number.used number.value l)) t) in
+        let len : length (part number.used number.value l) ≡ number.value = length_part number.used number.value l fits in
+        let some = message_some (part number.used number.value l) (and_right (leb (number.used + number.value) (length l)) (is_message (part number.used number.value l)) t) in
         (omega arith, omega arith)
 
-cut_splits : (l : List ℕ) (r : Number) → ((n u : ℕ) → r ≡ Value n u → Stands 5 l n u) → (start end : ℕ) → cut l r ≡ Whole start end → Splits l start end
+cut_splits : (l : List ℕ) (r : Option Number) → ((n u : ℕ) → r ≡ Value n u → Stands 5 l n u) → (start end : ℕ) → cut l r ≡ Whole start end → Splits l start end
 unfolding number
-cut_splits l Broken back start end q = let z : ◌≡◌ {A = ℕ} 0 1 = cc in absurd (omega arith)
-cut_splits l (Value n u) back start end q = ⊎_elim yes no (cases (leb (u + n) (length l) && is_message (part u n l)))
+cut_splits l None back start end q = let z : ◌≡◌ {A = ℕ} 0 1 = cc in absurd (omega arith)
+cut_splits l (Some numbers) back start end q = ⊎_elim yes no (cases (leb (numbers.used + numbers.value) (length l) && is_message (part numbers.used numbers.value l)))
   where
-    no : (leb (u + n) (length l) && is_message (part u n l)) ≡ false → Splits l start end
+    no : (leb (numbers.used + numbers.value) (length l) && is_message (part numbers.used numbers.value l)) ≡ false → Splits l start end
     no t = let f : Bad ≡ Whole start end = rw t at q in let z : ◌≡◌ {A = ℕ} 0 1 = cc in absurd (omega arith)
 
-    yes : (leb (u + n) (length l) && is_message (part u n l)) ≡ true → Splits l start end
+    yes : (leb (numbers.used + numbers.value) (length l) && is_message (part numbers.used numbers.value l)) ≡ true → Splits l start end
     yes t =
-        let f : Whole u (u + n) ≡ Whole start end = rw t at q in
-        let es : u ≡ start = cc in
-        let ee : u + n ≡ end = cc in
-        let fits : u + n ≤ length l = leb-true (u + n) (length l) (and_left (leb (u + n) (length l)) (is_message (part u n l)) t) in
-        let good : is_message (part u n l) ≡ true = and_right (leb (u + n) (length l)) (is_message (part u n l)) t in
-        let len : length (part u n l) ≡ n = length_part u n l fits in
-        let d : end - start ≡ n = omega arith in
-        let m : message_of l start end ≡ part u n l = rw (d, ← es) in
-        let s = back n u refl in
+        let f : Whole numbers.used (numbers.used + numbers.value) ≡ Whole start end = rw t at q in
+        let es : numbers.used ≡ start = cc in
+        let ee : numbers.used + numbers.value ≡ end = cc in
+        let fits : numbers.used + numbers.value ≤ length l = leb-true (numbers.used + numbers.value) (length l) (and_left (leb (numbers.used + numbers.value) (length l)) (is_message (part numbers.used numbers.value l)) t) in
+        let good : is_message (part numbers.used numbers.value l) ≡ true = and_right (leb (numbers.used + numbers.value) (length l)) (is_message (part numbers.used numbers.value l)) t in
+        let len : length (part numbers.used numbers.value l) ≡ numbers.value = length_part numbers.used numbers.value l fits in
+        let d : end - start ≡ numbers.value = omega arith in
+        let m : message_of l start end ≡ part numbers.used numbers.value l = rw (d, ← es) in
+        let s = back numbers.value numbers.used refl in
         record {
-          front = rw (m, len, ← ee, append_assoc (number n) (part u n l) (drop (u + n) l), ← drop-drop n u l, take-append-drop n (drop u l)) s.front;
+          front = rw (m, len, ← ee, append_assoc (number numbers.value) (part numbers.used numbers.value l) (drop (numbers.used + numbers.value) l), ← drop-drop numbers.value numbers.used l, take-append-drop numbers.value (drop numbers.used l)) s.front;
           message = rw m good;
           start_number = rw (m, len, ← es) s.bytes;
-          within = cut_within l (Value n u) start end q;
+          within = cut_within l (Value numbers.value numbers.used) start end q;
         }
 
 -- a list that is not empty, by its number
@@ -93,22 +93,22 @@ first_within [] start end q = let z : ◌≡◌ {A = ℕ} 0 1 = cc in absurd (om
 first_within (b ∷ l) start end q = cut_within (b ∷ l) (read_number (b ∷ l)) start end q
 
 -- the longest record: one byte of its number, and 120 of its message
-cut_short_record : (l : List ℕ) (r : Number) → read_number l ≡ r → (start end : ℕ) → cut l r ≡ Whole start end → end ≤ 121
-cut_short_record l Broken er start end q = let z : ◌≡◌ {A = ℕ} 0 1 = cc in absurd (omega arith)
-cut_short_record l (Value n u) er start end q = ⊎_elim yes no (cases (leb (u + n) (length l) && is_message (part u n l)))
+cut_short_record : (l : List ℕ) (r : Option Number) → read_number l ≡ r → (start end : ℕ) → cut l r ≡ Whole start end → end ≤ 121
+cut_short_record l None er start end q = let z : ◌≡◌ {A = ℕ} 0 1 = cc in absurd (omega arith)
+cut_short_record l (Some number) er start end q = ⊎_elim yes no (cases (leb (number.used + number.value) (length l) && is_message (part number.used number.value l)))
   where
-    no : (leb (u + n) (length l) && is_message (part u n l)) ≡ false → end ≤ 121
+    no : (leb (number.used + number.value) (length l) && is_message (part number.used number.value l)) ≡ false → end ≤ 121
     no t = let f : Bad ≡ Whole start end = rw t at q in let z : ◌≡◌ {A = ℕ} 0 1 = cc in absurd (omega arith)
 
-    yes : (leb (u + n) (length l) && is_message (part u n l)) ≡ true → end ≤ 121
+    yes : (leb (number.used + number.value) (length l) && is_message (part number.used number.value l)) ≡ true → end ≤ 121
     yes t =
-        let f : Whole u (u + n) ≡ Whole start end = rw t at q in
-        let ee : u + n ≡ end = cc in
-        let fits : u + n ≤ length l = leb-true (u + n) (length l) (and_left (leb (u + n) (length l)) (is_message (part u n l)) t) in
-        let len : length (part u n l) ≡ n = length_part u n l fits in
-        let sized = (is_message_law (part u n l) (and_right (leb (u + n) (length l)) (is_message (part u n l)) t)).sized in
-        let most = size_most (part u n l) in
-        let one : u ≡ 1 = read_small l n u er (omega arith) in
+        let f : Whole number.used (number.used + number.value) ≡ Whole start end = rw t at q in
+        let ee : number.used + number.value ≡ end = cc in
+        let fits : number.used + number.value ≤ length l = leb-true (number.used + number.value) (length l) (and_left (leb (number.used + number.value) (length l)) (is_message (part number.used number.value l)) t) in
+        let len : length (part number.used number.value l) ≡ number.value = length_part number.used number.value l fits in
+        let sized = (is_message_law (part number.used number.value l) (and_right (leb (number.used + number.value) (length l)) (is_message (part number.used number.value l)) t)).sized in
+        let most = size_most (part number.used number.value l) in
+        let one : number.used ≡ 1 = read_small l number.value number.used er (omega arith) in
         omega arith
 
 pub first_short : (l : List ℕ) (start end : ℕ) → first_of l ≡ Whole start end → end ≤ 121
@@ -139,7 +139,7 @@ first_written m l e =
     fits = let h = (is_message_law m e).sized in let k = size_most m in omega arith
 
 -- ---- a record as the code cuts it, by a number that was read
-module _ (l : List ℕ) (r : Number) (n u : ℕ) (e : r ≡ Value n u) where
+module _ (l : List ℕ) (r : Option Number) (n u : ℕ) (e : r ≡ Value n u) where
   pub cut_short : length l < u + n → Bad ≡ cut l r
   cut_short h = rw (e, lt-leb (u + n) (length l) h)
 
@@ -233,12 +233,12 @@ first_empty : (l : List ℕ) → first_of l ≡ Empty → l ≡ []
 first_empty [] e = refl
 first_empty (b ∷ l) e = absurd (never (read_number (b ∷ l)) e)
   where
-    never : (r : Number) → cut (b ∷ l) r ≡ Empty → ⊥
-    never Broken q = let z : ◌≡◌ {A = ℕ} 0 1 = cc in omega arith
-    never (Value n u) q =
-        ⊎_elim (λ (t : (leb (u + n) (length (b ∷ l)) && is_message (part u n (b ∷ l))) ≡ true). no_whole u (u + n) (rw t at q))
-        (λ (t : (leb (u + n) (length (b ∷ l)) && is_message (part u n (b ∷ l))) ≡ false). no_bad (rw t at q))
-        (cases (leb (u + n) (length (b ∷ l)) && is_message (part u n (b ∷ l))))
+    never : (r : Option Number) → cut (b ∷ l) r ≡ Empty → ⊥
+    never None q = let z : ◌≡◌ {A = ℕ} 0 1 = cc in omega arith
+    never (Some number) q =
+        ⊎_elim (λ (t : (leb (number.used + number.value) (length (b ∷ l)) && is_message (part number.used number.value (b ∷ l))) ≡ true). no_whole number.used (number.used + number.value) (rw t at q))
+        (λ (t : (leb (number.used + number.value) (length (b ∷ l)) && is_message (part number.used number.value (b ∷ l))) ≡ false). no_bad (rw t at q))
+        (cases (leb (number.used + number.value) (length (b ∷ l)) && is_message (part number.used number.value (b ∷ l))))
       where
         no_whole : (s e : ℕ) → Whole s e ≡ Empty → ⊥
         no_whole s e f = let z : ◌≡◌ {A = ℕ} 0 1 = cc in omega arith
@@ -310,8 +310,8 @@ from_refused (suc k) l at c p h e = by (first_of (drop at l)) refl e (λ next. f
         → ((next : ℕ) → fault_from k l next ≡ Refused c p → BrokenAt l next c p) → BrokenAt l at c p
     by Empty q v ih = let z : ◌≡◌ {A = ℕ} 0 1 = cc in absurd (omega arith)
     by Bad q v ih =
-        let ec : c ≡ BrokenRecord = cc in
-        let ep : p ≡ at = cc in
+        let ec = sym (refused_by _ _ _ _ v) in
+        let ep = sym (refused_at _ _ _ _ v) in
         let d : p - at ≡ 0 = omega arith in
         record { cause = ec; behind = omega arith; before = rw d (record { messages = []; joined = refl; all = tt }); broken = rw ep q }
     by (Whole start end) q v ih =

@@ -1,16 +1,14 @@
 -- Lists of records (document 01, "The writer's one way"): each the message size as a number and then the message.
-use Rattle.std.specs.Prelude.{ℕ, zero, suc, ◌+◌, ◌-◌, ◌≡◌, true, ◌&&◌, List, [], ◌∷◌, ◌++◌, length, drop, leb}
+use Rattle.std.specs.Prelude.{ℕ, zero, suc, ◌+◌, ◌-◌, ◌≡◌, true, ◌&&◌, List, [], ◌∷◌, ◌++◌, length, drop, leb, Option, Some, None}
 use Rattle.lists.specs.Pick.{pick}
 use Rattle.lists.specs.Parts.{part}
-use Rattle.cause.specs.declared.Verdict.{Verdict}
-use Rattle.cause.specs.declared.Verdict.TheVariants.{Accepted, Refused}
 use Rattle.cause.specs.declared.Cause.TheVariants.{BrokenRecord}
 use Rattle.message.specs.Heads.{is_message}
 use Rattle.record.specs.Number.{number, read_number}
 use Rattle.record.specs.declared.number.Number.{Number}
-use Rattle.record.specs.declared.number.Number.TheVariants.{Broken, Value}
 use Rattle.record.specs.declared.list.First.{First}
 use Rattle.record.specs.declared.list.First.TheVariants.{Empty, Bad, Whole}
+use Rattle.cause.specs.Checks.{Verdict, Accepted, Refused}
 
 -- the most bytes of a list
 abbrev pub longest_list : ℕ
@@ -31,9 +29,9 @@ AllMessages [] = Unit {0}
 AllMessages (m ∷ ms) = (is_message m ≡ true) × AllMessages ms
 
 -- what follows a number at the front of a list: a message from its start to its end, or a broken record
-abbrev pub cut : List ℕ → Number → First
-cut l Broken = Bad
-cut l (Value n used) = pick (leb (used + n) (length l) && is_message (part used n l)) (Whole used (used + n)) Bad
+abbrev pub cut : List ℕ → Option Number → First
+cut l None = Bad
+cut l (Some number) = pick (leb (number.used + number.value) (length l) && is_message (part number.used number.value l)) (Whole number.used (number.used + number.value)) Bad
 
 -- the first record of a list
 abbrev pub first_of : List ℕ → First

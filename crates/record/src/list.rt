@@ -10,7 +10,7 @@ use message::is_message;
 pub const LONGEST_LIST: usize = 4096;
 
 // The first record of a list: none, a broken one, or the bytes of its message from start to end.
-#[derive(Clone, Copy)]
+#[derive(Clone, Copy, Debug, PartialEq, Eq)]
 pub enum First {
     Empty,
     Bad,
@@ -18,29 +18,27 @@ pub enum First {
 }
 
 // The record whose size number stands at the front of a list.
-fn cut_record(list: &[u8], number: Number) -> First
+fn cut_record(list: &[u8], number: Option<Number>) -> First
     ensures { result ≡ cut list.now number }
 {
-    match number {
-        Number::Broken => First::Bad,
-        Number::Value { value, used } => {
-            let size = value as usize;
-            if list.len() < used {
-                return First::Bad;
-            }
-            if list.len() - used < size {
-                return First::Bad;
-            }
-            let end = used + size;
-            if is_message(&list[used..end]) {
-                return First::Whole {
-                    start: used,
-                    end: end,
-                };
-            }
-            First::Bad
-        }
+    let Some(Number { value, used }) = number else {
+        return First::Bad;
+    };
+    let size = value as usize;
+    if list.len() < used {
+        return First::Bad;
     }
+    if list.len() - used < size {
+        return First::Bad;
+    }
+    let end = used + size;
+    if is_message(&list[used..end]) {
+        return First::Whole {
+            start: used,
+            end: end,
+        };
+    }
+    First::Bad
 }
 
 // The first record of a list.
@@ -61,12 +59,12 @@ pub fn check_list(list: &[u8]) -> Verdict
     while at < list.len() {
         let first = read_record(&list[at..]);
         match first {
-            First::Empty => return Verdict::Accepted,
-            First::Bad => return Verdict::Refused(Cause::BrokenRecord, at as u64),
+            First::Empty => return Ok(()),
+            First::Bad => return Err(Cause::BrokenRecord.at(at as u64)),
             First::Whole { start: _, end } => {
                 at += end;
             }
         }
     }
-    Verdict::Accepted
+    Ok(())
 }

@@ -1,69 +1,64 @@
 // A number in seven-bit groups: low group first, top bit set when more follow, shortest form, at most five groups and at most
 // 4,294,967,295.
-ghost use Rattle.std.specs.Prelude.{◌≡◌, ◌≤◌};
+ghost use Rattle.std.specs.Prelude.{◌≡◌, ◌≤◌, Some};
 ghost use Rattle.record.specs.Number.{used_of, joined, read_groups, read_number, encoded};
 
-// What stands at the front of a list.
-#[derive(Clone, Copy)]
-pub enum Number {
-    Broken,
-    Value { value: u32, used: usize },
+// A number at the front of a list, and how many bytes of it.
+#[derive(Clone, Copy, Debug, PartialEq, Eq)]
+pub struct Number {
+    pub value: u32,
+    pub used: usize,
 }
 
 // A number as bytes, zeros behind, and how many of them it has.
-#[derive(Clone, Copy)]
+#[derive(Clone, Copy, Debug, PartialEq, Eq)]
 pub struct Encoded {
     pub bytes: [u8; 5],
     pub len: usize,
 }
 
 // A byte that says that more follow, before the number of the groups behind it.
-fn join_group(low: u8, rest: Number) -> Number
-    requires { used_of rest ≤ 4 }
-    ensures { result ≡ joined low rest }
+fn join_group(low: u8, rest: Number) -> Option<Number>
+    requires { rest.used ≤ 4 }
+    ensures { result ≡ joined low (Some rest) }
 {
-    match rest {
-        Number::Broken => Number::Broken,
-        Number::Value { value, used } => {
-            if value == 0 {
-                return Number::Broken;
-            }
-            let whole = (low as u64) % 128 + 128 * (value as u64);
-            if whole <= 4294967295 {
-                return Number::Value {
-                    value: whole as u32,
-                    used: used + 1,
-                };
-            }
-            Number::Broken
-        }
+    if rest.value == 0 {
+        return None;
     }
+    let whole = (low as u64) % 128 + 128 * (rest.value as u64);
+    if 4294967295 < whole {
+        return None;
+    }
+    Some(Number {
+        value: whole as u32,
+        used: rest.used + 1,
+    })
 }
 
 // The number of at most `left` groups at the front of a list.
-fn read_groups(list: &[u8], left: u32) -> Number
+fn read_groups(list: &[u8], left: u32) -> Option<Number>
     requires { left ≤ 5 }
     ensures { result ≡ read_groups left list.now }
 {
     if left == 0 {
-        return Number::Broken;
+        return None;
     }
     if list.len() == 0 {
-        return Number::Broken;
+        return None;
     }
     let low = list[0];
     if low < 128 {
-        return Number::Value {
+        return Some(Number {
             value: low as u32,
             used: 1,
-        };
+        });
     }
-    let rest = read_groups(&list[1..], left - 1);
+    let rest = read_groups(&list[1..], left - 1)?;
     join_group(low, rest)
 }
 
 // The number at the front of a list.
-pub fn read_number(list: &[u8]) -> Number
+pub fn read_number(list: &[u8]) -> Option<Number>
     ensures { result ≡ read_number list.now }
 {
     read_groups(list, 5)

@@ -16,7 +16,6 @@ use Rattle.lists.proofs.Tests.{cases, and_both, or_true}
 use Rattle.lists.proofs.Order.{lt_or_le}
 use Rattle.lists.proofs.PartLaws.{bytes_drop}
 use Rattle.lists.proofs.ZeroLaws.{zeros_replicate}
-use Rattle.cause.specs.declared.Verdict.TheVariants.{Accepted}
 use Rattle.cause.proofs.CheckLaws.{pass_accepted}
 use Rattle.container.specs.Layout.{Format, format_of, wide}
 use Rattle.container.specs.Grants.{plane_allowed, no_counts}
@@ -40,6 +39,7 @@ use Rattle.writer.proofs.Run.{Ran}
 use Rattle.writer.proofs.OtherOrder.{other_order_length}
 use Rattle.round_trip.proofs.Return.{list_returned}
 use Rattle.round_trip.proofs.RoundTrip.{link_most, tail_of_law, ran, is_filled, Linked, list_left}
+use Rattle.cause.specs.Checks.{Accepted}
 
 -- the wide granules among g, g + 1, .., k of them
 abbrev wides : Format → ℕ → ℕ → ℕ

@@ -11,8 +11,7 @@ use lib.Dec.{eqb, ltb}
 use borrow.Author.Tests.{lt-ltb, le-leb, eq-eqb, ltb-true}
 use Rattle.lists.specs.Parts.{IsBytes}
 use Rattle.lists.proofs.Tests.{cases, and_left, and_right, or_true}
-use Rattle.cause.specs.Checks.{Pass, first_fault}
-use Rattle.cause.specs.declared.Verdict.TheVariants.{Accepted}
+use Rattle.cause.specs.Checks.{Pass, first_fault, Accepted}
 use Rattle.cause.proofs.CheckLaws.{pass_accepted, accepted_pass, pass_append, both_accepted}
 use Rattle.container.specs.Layout.{Format, format_of, wide}
 use Rattle.container.specs.Grants.{header_grant, plane_allowed, no_counts}

@@ -4,11 +4,11 @@ use mathlib.Core.Path.{◌≡◌, refl, sym, ap, ◌∙◌, subst}
 use mathlib.Core.List.{List, ◌++◌}
 use native.Mathlib.Omega.{arith}
 use lib.ListN.{length, get_or, take, drop, set, replicate}
-use lib.ListN.{length-take, length-drop, length-set, length-replicate, get_or-replicate, take-append-drop}
+use lib.ListN.{length-take, length-drop, length-set, length-replicate, take-append-drop}
 use lib.Seq.{take_all, get_or-take, take-set-le, drop-set-add}
 use Rattle.lists.specs.Parts.{put, pad}
 use Rattle.lists.proofs.PartLaws.{put_part}
-use Rattle.lists.proofs.Fill.{grown_all, put_zeros, Copied, copied_none, copied_more, copied_all}
+use Rattle.lists.proofs.Fill.{put_zeros, Copied, copied_none, copied_more, copied_all}
 
 -- l with a part x copied into it from an offset on, as much of it as there is room for
 abbrev pub copied_into : ℕ → List ℕ → List ℕ → List ℕ
@@ -59,14 +59,3 @@ module _ (d₀ : List ℕ) (at : ℕ) (x d : List ℕ) (i : ℕ) (h : Copying d�
       sym (take-append-drop at d) ∙ ap (λ (r : List ℕ). r ++ drop at d) h.before
       ∙ ap (λ (r : List ℕ). take at d₀ ++ r) (copied_all fitting (drop at d₀) (drop at d) i h.behind (omega arith))
       ∙ put_part at fitting d₀
-
--- zeros, as many as there are elements
-module _ (d₀ d : List ℕ) (i : ℕ) (h : Copied (replicate (length d₀) 0) d₀ d i) where
-  pub cleared_more : i < length d → Copied (replicate (length d₀) 0) d₀ (set d i 0) (i + 1)
-  cleared_more l =
-      let n = length-replicate {A = ℕ} (length d₀) 0 in
-      let k = h.long in
-      copied_more (replicate (length d₀) 0) d₀ d i h (omega arith) (omega arith) 0 (sym (get_or-replicate (length d₀) i 0 0 (omega arith)))
-
-  pub cleared_all : length d ≤ i → d ≡ replicate (length d₀) 0
-  cleared_all l = let k = h.long in h.is ∙ grown_all (replicate (length d₀) 0) d₀ i (length-replicate (length d₀) 0) (omega arith)

@@ -1,3 +1,2 @@
 pub mod CopyLaws
-pub mod FrontLaws
 pub mod ZeroTest

@@ -1,16 +1,16 @@
 -- The test that all bytes are zero, by numbers that are zero exactly where some of the bytes are. Assumes nothing.
 use Prim.Native.Nat.{ℕ, ◌+◌, ◌-◌, ◌*◌, ◌≤◌, ◌<◌}
 use mathlib.Core.Path.{◌≡◌, refl, sym, ap, ◌∙◌}
-use mathlib.Core.Bool.{true, ◌&&◌, and-true}
-use mathlib.Core.List.{List, [], ◌∷◌}
+use mathlib.Core.Bool.{true, ◌&&◌}
+use mathlib.Core.List.{List}
 use native.Mathlib.Omega.{arith}
 use native.Mathlib.Nat.{mul-le-mul_right, mul-zero}
-use lib.ListN.{length, get_or, take, drop, length-drop}
-use lib.Seq.{drop-drop, drop-cons, take-add, take_all}
+use lib.ListN.{length, take, drop, length-drop}
+use lib.Seq.{drop-drop, take-add, take_all}
 use lib.Dec.{eqb}
 use lib.Bits.{bit_or, or_add_and, and_le_l, and_le_r}
 use borrow.Author.Tests.{eq-eqb, eqb-true}
-use Rattle.lists.specs.Parts.{part, zeros, sum}
+use Rattle.lists.specs.Parts.{part, zeros}
 use Rattle.lists.proofs.Tests.{and_left, and_right, and_both, same_test}
 use Rattle.lists.proofs.ZeroLaws.{zeros_split, zeros_append}
 
@@ -34,10 +34,6 @@ or_zero r s =
     let below = and_le_l r s in
     let above = and_le_r r s in
     both_zero r s (bit_or r s) (λ e. (omega arith, omega arith)) (λ e f. omega arith)
-
--- one byte
-pub byte_zero : (l : List ℕ) (at : ℕ) → at < length l → eqb (get_or l at 0) 0 ≡ zeros (part at 1 l)
-byte_zero l at h = rw (drop-cons l at 0 h) (sym (and-true (eqb (get_or l at 0) 0)))
 
 -- bytes that stand one behind the other
 pub joined_zero : (l : List ℕ) (at n k r s z : ℕ) → eqb r 0 ≡ zeros (part at n l) → eqb s 0 ≡ zeros (part (at + n) k l)
@@ -71,10 +67,3 @@ ends_zero l i n r s h k er es = or_zero r s ∙ rw (er, es, rest) (sym (zeros_ov
   where
     rest : take n (drop (length l - n) l) ≡ drop (length l - n) l
     rest = take_all n (drop (length l - n) l) (rw (length-drop (length l - n) l) (omega arith))
-
--- the first three bytes
-pub sum_three : (l : List ℕ) → sum (take 3 l) ≡ get_or l 0 0 + get_or l 1 0 + get_or l 2 0
-sum_three [] = refl
-sum_three (a ∷ []) = omega arith
-sum_three (a ∷ b ∷ []) = omega arith
-sum_three (a ∷ b ∷ c ∷ l) = omega arith

@@ -1,15 +1,19 @@
-// A byte of a part, the tests that all bytes of a part or all from a position on are zero, and bytes moved to the front.
+// An element or a byte of a part, the tests that all bytes of a part or all from a position on are zero, and bytes moved to the front.
 ghost use Rattle.std.specs.Prelude.{◌≡◌, ◌+◌, ◌≤◌, ◌<◌, get_or, length, take, drop, eqb};
 ghost use Rattle.lists.specs.Parts.{part, put, zeros, sum};
+
+// The element at i, `none` behind the end.
+pub fn item_or<T: Copy>(part: &[T], i: usize, none: T) -> T
+    ensures { result ≡ get_or part.now i none }
+{
+    part.get(i).copied().unwrap_or(none)
+}
 
 // The byte at i, 0 behind the end.
 pub fn byte_at(part: &[u8], i: usize) -> u8
     ensures { result ≡ get_or part.now i 0 }
 {
-    if i < part.len() {
-        return part[i];
-    }
-    0
+    item_or(part, i, 0)
 }
 
 // A byte in 64 bits.
@@ -93,22 +97,15 @@ pub fn is_zero(part: &[u8]) -> bool
 pub fn is_zero_from(part: &[u8], from: usize) -> bool
     ensures { result ≡ zeros (drop from part.now) }
 {
-    if from < part.len() {
-        return is_zero(&part[from..]);
-    }
-    true
+    part.len() <= from || is_zero(&part[from..])
 }
 
 // Moves the n bytes from `from` on to the front, or as many of them as there are; the bytes behind them stay.
 pub fn move_front(bytes: &mut [u8], from: usize, n: usize)
     ensures { bytes.new ≡ put 0 (part from n bytes.old) bytes.old }
 {
-    let mut i = 0;
-    while i < n {
-        if bytes.len() - i <= from {
-            return;
-        }
-        bytes[i] = bytes[from + i];
-        i += 1;
+    if from < bytes.len() {
+        let size = n.min(bytes.len() - from);
+        bytes.copy_within(from..from + size, 0);
     }
 }

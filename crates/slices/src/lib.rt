@@ -4,5 +4,5 @@
 mod bytes;
 mod copy;
 
-pub use bytes::{byte_at, is_zero, is_zero_from, move_front};
+pub use bytes::{byte_at, is_zero, is_zero_from, item_or, move_front};
 pub use copy::{clear, copy_into};

@@ -1,11 +1,11 @@
 -- The bytes of a line of hex, each at its place. Assumes nothing.
-use Prim.Native.Nat.{ℕ, zero, suc, ◌+◌, ◌*◌, ◌/◌, ◌%◌, ◌≤◌, ◌<◌}
+use Prim.Native.Nat.{ℕ, zero, suc, ◌+◌, ◌*◌, ◌/◌, ◌%◌, ◌<◌}
 use mathlib.Core.Path.{◌≡◌, refl, sym, ap, ◌∙◌, subst}
 use mathlib.Core.List.{List, [], ◌∷◌}
 use native.Mathlib.Omega.{arith}
 use lib.ListN.{length, get_or, set, length-append}
 use Rattle.lists.specs.Parts.{put}
-use Rattle.lists.proofs.Fill.{Copied, copied_none, copied_more, copied_all}
+use Rattle.lists.proofs.Fill.{Copied, copied_more, copied_all}
 use Rattle.io.specs.Digits.{hex_digit_ascii}
 use Rattle.text.specs.Hex.{hex_of, message_line}
 
@@ -38,12 +38,8 @@ line_end (b ∷ m) =
     ap (λ (k : ℕ). get_or (message_line (b ∷ m)) k 0) e ∙ line_end m
 
 -- the digits of the first i bytes stand at the front of d, over d₀
-pub record Hexed (m d₀ d : List ℕ) (i : ℕ) : Type 0 where
-  pub within : i ≤ length m
-  pub copied : Copied (message_line m) d₀ d (2 * i)
-
-pub hexed_none : (m d : List ℕ) → Hexed m d d 0
-hexed_none m d = record { within = omega arith; copied = copied_none (message_line m) d }
+abbrev pub Hexed : List ℕ → List ℕ → List ℕ → ℕ → Type 0
+Hexed m d₀ d i = Copied (message_line m) d₀ d (2 * i)
 
 module _ (m d₀ d : List ℕ) (i : ℕ) (room : 2 * length m < length d₀) (h : Hexed m d₀ d i) where
   -- one byte more
@@ -51,18 +47,15 @@ module _ (m d₀ d : List ℕ) (i : ℕ) (room : 2 * length m < length d₀) (h 
       → Hexed m d₀ (set (set d (2 * i) a) (2 * i + 1) b) (i + 1)
   hexed_more l a b ea eb =
       let n = length_line m in
-      let one = copied_more (message_line m) d₀ d (2 * i) h.copied (omega arith) (omega arith) a (ea ∙ sym (high_digit m i l)) in
+      let one = copied_more (message_line m) d₀ d (2 * i) h (omega arith) (omega arith) a (ea ∙ sym (high_digit m i l)) in
       let two = copied_more (message_line m) d₀ (set d (2 * i) a) (2 * i + 1) one (omega arith) (omega arith) b (eb ∙ sym (low_digit m i l))
       in
       let e : 2 * i + 1 + 1 ≡ 2 * (i + 1) = omega arith in
-      record { within = omega arith; copied = subst (Copied (message_line m) d₀ (set (set d (2 * i) a) (2 * i + 1) b)) e two }
+      subst (Copied (message_line m) d₀ (set (set d (2 * i) a) (2 * i + 1) b)) e two
 
-  -- the line end behind the last
-  pub hexed_all : length m ≤ i → (2 * i + 1 ≡ length (message_line m)) × (set d (2 * i) 10 ≡ put 0 (message_line m) d₀)
-  hexed_all l =
-      let n = length_line m in
-      let w = h.within in
-      let e : i ≡ length m = omega arith in
-      let last : 10 ≡ get_or (message_line m) (2 * i) 0 = sym (ap (λ (k : ℕ). get_or (message_line m) (2 * k) 0) e ∙ line_end m) in
-      let all = copied_more (message_line m) d₀ d (2 * i) h.copied (omega arith) (omega arith) 10 last in
-      (omega arith, copied_all (message_line m) d₀ (set d (2 * i) 10) (2 * i + 1) all (omega arith))
+-- the line end behind the last
+pub hexed_all : (m d₀ d : List ℕ) → 2 * length m < length d₀ → Hexed m d₀ d (length m) → set d (2 * length m) 10 ≡ put 0 (message_line m) d₀
+hexed_all m d₀ d room h =
+    let n = length_line m in
+    let all = copied_more (message_line m) d₀ d (2 * length m) h (omega arith) (omega arith) 10 (sym (line_end m)) in
+    copied_all (message_line m) d₀ (set d (2 * length m) 10) (2 * length m + 1) all (omega arith)

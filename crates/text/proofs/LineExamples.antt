@@ -1,9 +1,9 @@
 -- Lines, computed. Assumes nothing.
 use mathlib.Core.Path.{◌≡◌, refl}
 use Rattle.cause.specs.declared.Cause.TheVariants.{GrantedOverCapacity, BrokenRecord}
-use Rattle.cause.specs.declared.Verdict.TheVariants.{Accepted, Refused}
 use Rattle.text.specs.Ascii.{bytes_of}
 use Rattle.text.specs.Lines.{decimal_by, decimal, verdict_line, refusal_line}
+use Rattle.cause.specs.Checks.{Accepted, Refused}
 
 pub examples :
     (verdict_line 0 Accepted ≡ bytes_of "accepted 0\n")

@@ -58,20 +58,20 @@ pub lines_whole : (l : List ℕ) (start end : ℕ) → first_of l ≡ Whole star
     → lines_of l ≡ message_line (message_of l start end) ++ lines_of (drop end l)
 lines_whole l start end e = lines_by l ∙ ap (λ (f : First). line_then f l lines_of) e
 
-pub lines_empty : (l : List ℕ) → first_of l ≡ Empty → lines_of l ≡ []
-lines_empty l e = lines_by l ∙ ap (λ (f : First). line_then f l lines_of) e
-
-pub lines_bad : (l : List ℕ) → first_of l ≡ Bad → lines_of l ≡ []
-lines_bad l e = lines_by l ∙ ap (λ (f : First). line_then f l lines_of) e
-
-pub lines_none : (l : List ℕ) → length l ≡ 0 → lines_of l ≡ []
-lines_none l e = lines_empty l (ap first_of (length_zero l e))
+-- where no whole record stands at the front
+pub lines_over : (l : List ℕ) → ((start end : ℕ) → first_of l ≡ Whole start end → ⊥) → lines_of l ≡ []
+lines_over l none = lines_by l ∙ by (first_of l) refl
+  where
+    by : (f : First) → first_of l ≡ f → line_then f l lines_of ≡ []
+    by Empty e = refl
+    by Bad e = refl
+    by (Whole start end) e = absurd (none start end e)
 
 -- ---- records of messages
 
 -- the lines of records are those of their messages
 pub lines_messages : (ms : List (List ℕ)) → AllMessages ms → lines_of (records_of ms) ≡ message_lines ms
-lines_messages [] a = lines_none [] refl
+lines_messages [] a = lines_by []
 lines_messages (m ∷ ms) a =
     let n = number (length m) in
     let l = record_of m ++ records_of ms in

@@ -16,11 +16,11 @@ use Rattle.lists.proofs.PartLaws.{length_put, put_mid_is_put}
 use Rattle.lists.proofs.PutLaws.{put_more}
 use Rattle.cause.specs.Causes.{cause_number}
 use Rattle.cause.specs.declared.Cause.{Cause}
-use Rattle.cause.specs.declared.Verdict.{Verdict}
-use Rattle.cause.specs.declared.Verdict.TheVariants.{Accepted, Refused}
 use Rattle.cause.proofs.CauseLaws.{number_most}
 use Rattle.text.specs.Lines.{decimal, spaced, newline, fault_words, verdict_line, refusal_line, min_room, room_of, answer_of}
 use Rattle.text.proofs.DecimalLaws.{decimal_digits, spaced_most, spaced_small}
+use Rattle.cause.specs.Checks.{Verdict}
+use Rattle.std.specs.Prelude.{Ok, Err}
 
 -- what a copy to the front of a lent part `&mut l[a..]` makes of the whole
 pub copied_at : (l : List ℕ) (a : ℕ) (x d : List ℕ) → a ≤ length l
@@ -106,8 +106,8 @@ line_refused line l small =
 
 -- every line fits the least room, and stands at the front of a room that is large enough
 pub verdict_most : (e : ℕ) (v : Verdict) → length (verdict_line e v) ≤ min_room
-verdict_most e Accepted = omega (arith, spaced_most e, length-append (spaced e) newline)
-verdict_most e (Refused c p) = omega (arith, spaced_most e, fault_most c p, length-append (spaced e) (fault_words c p))
+verdict_most e (Ok _) = omega (arith, spaced_most e, length-append (spaced e) newline)
+verdict_most e (Err fault) = omega (arith, spaced_most e, fault_most fault.cause fault.place, length-append (spaced e) (fault_words fault.cause fault.place))
 
 pub refusal_most : (c : Cause) (p : ℕ) → length (refusal_line c p) ≤ min_room
 refusal_most c p = omega (arith, fault_most c p)

@@ -1,12 +1,11 @@
 -- The lines that programs print, as bytes in ASCII.
-use Rattle.std.specs.Prelude.{ℕ, zero, suc, ◌+◌, ◌/◌, ◌%◌, List, [], ◌∷◌, ◌++◌, length, ltb}
+use Rattle.std.specs.Prelude.{ℕ, zero, suc, ◌+◌, ◌/◌, ◌%◌, List, [], ◌∷◌, ◌++◌, length, ltb, Ok, Err}
 use Rattle.lists.specs.Pick.{pick}
 use Rattle.lists.specs.Parts.{put}
 use Rattle.cause.specs.Causes.{cause_number}
 use Rattle.cause.specs.declared.Cause.{Cause}
-use Rattle.cause.specs.declared.Verdict.{Verdict}
-use Rattle.cause.specs.declared.Verdict.TheVariants.{Accepted, Refused}
 use Rattle.text.specs.Ascii.{bytes_of}
+use Rattle.cause.specs.Checks.{Verdict}
 
 -- the digits of n, at most k of them, the most significant first
 unfoldable pub decimal_by : ℕ → ℕ → List ℕ
@@ -30,8 +29,8 @@ fault_words c p = spaced (cause_number c) ++ (spaced p ++ newline)
 
 -- "accepted E" or "refused E C P" and a newline: a verdict behind e entries
 abbrev pub verdict_line : ℕ → Verdict → List ℕ
-verdict_line e Accepted = bytes_of "accepted" ++ (spaced e ++ newline)
-verdict_line e (Refused c p) = bytes_of "refused" ++ (spaced e ++ fault_words c p)
+verdict_line e (Ok _) = bytes_of "accepted" ++ (spaced e ++ newline)
+verdict_line e (Err fault) = bytes_of "refused" ++ (spaced e ++ fault_words fault.cause fault.place)
 
 -- "refused C P" and a newline
 abbrev pub refusal_line : Cause → ℕ → List ℕ

@@ -12,9 +12,10 @@ fn form_digit(value: u8) -> u8
     ensures { result ≡ hex_digit_ascii value }
 {
     if value < 10 {
-        return 48 + value;
+        b'0' + value
+    } else {
+        b'a' + (value - 10)
     }
-    87 + value
 }
 
 // Writes a message as a line of hex at the front of the room, and answers its length.
@@ -23,14 +24,13 @@ fn write_line(message: &[u8], room: &mut [u8]) -> usize
     ensures end { result ≡ length (message_line message.now) }
     ensures room { room.new ≡ put 0 (message_line message.now) room.old }
 {
-    let mut i = 0;
-    while i < message.len() {
-        room[2 * i] = form_digit(message[i] / 16);
-        room[2 * i + 1] = form_digit(message[i] % 16);
-        i += 1;
+    for (i, byte) in message.iter().enumerate() {
+        room[2 * i] = form_digit(*byte / 16);
+        room[2 * i + 1] = form_digit(*byte % 16);
     }
-    room[2 * i] = 10;
-    2 * i + 1
+    let end = 2 * message.len();
+    room[end] = b'\n';
+    end + 1
 }
 
 // Writes the messages of a list of records as lines at the front of the room, up to the first that is no record, and answers their
@@ -44,17 +44,10 @@ pub fn write_messages(list: &[u8], room: &mut [u8]) -> usize
     }
     let mut at = 0;
     let mut to = 0;
-    while at < list.len() {
-        let first = read_record(&list[at..]);
-        match first {
-            First::Empty => return to,
-            First::Bad => return to,
-            First::Whole { start, end } => {
-                let from = at + start;
-                at += end;
-                to += write_line(&list[from..at], &mut room[to..]);
-            }
-        }
+    while let First::Whole { start, end } = read_record(&list[at..]) {
+        let from = at + start;
+        at += end;
+        to += write_line(&list[from..at], &mut room[to..]);
     }
     to
 }

@@ -55,15 +55,15 @@ pub fn write_verdict(entries: u64, verdict: Verdict, room: &mut [u8]) -> usize
         return 0;
     }
     match verdict {
-        Verdict::Accepted => {
+        Ok(()) => {
             let word = write_word(b"accepted", room, 0);
             let end = write_number(entries, room, word);
             write_word(b"\n", room, end)
         }
-        Verdict::Refused(cause, place) => {
+        Err(fault) => {
             let word = write_word(b"refused", room, 0);
             let count = write_number(entries, room, word);
-            write_fault(cause, place, room, count)
+            write_fault(fault.cause, fault.place, room, count)
         }
     }
 }

@@ -3,7 +3,7 @@ use Prim.Native.Nat.{ℕ}
 use mathlib.Core.Path.{◌≡◌, refl, sym, ap, ◌∙◌, subst}
 use mathlib.Core.Bool.{Bool, true, false}
 use mathlib.Core.List.{List, ◌++◌, append_assoc, append-nil}
-use native.Mathlib.Omega.{arith}
+use Rattle.std.specs.Prelude.{Option, None, Some}
 use Rattle.lists.proofs.Tests.{never_both}
 use Rattle.unpacker.specs.Unpacking.{unpack_text}
 use Rattle.unpacker.specs.Stepping.{turn, text_from}
@@ -14,9 +14,7 @@ use Rattle.unpacker.specs.declared.unpack.Outcome.{Outcome}
 use Rattle.unpacker.specs.declared.unpack.Outcome.TheVariants as outcome
 use Rattle.unpacker.proofs.CallTheorem.{Ends, one_call}
 use Rattle.unpacker.proofs.CutTheorem.{Steps, stops, goes, waits, turn_steps, fresh_text}
-use Rattle.std.specs.declared.io.Error.{Error}
-use Rattle.unpack.specs.Turns.{held, Filled, got, end, failed, Follows, Taken, Turns, none, next, more, last, Told, Ended}
-use Rattle.unpack.specs.declared.Progress.TheVariants.{On, Over, Failed}
+use Rattle.unpack.specs.Turns.{held, Filled, got, end, Follows, Turned, Turns, none, next, more, last, Told, Ended}
 use Rattle.unpack.specs.declared.Window.{Window}
 use Rattle.unpack.specs.declared.Turn.{Turn}
 
@@ -66,73 +64,56 @@ told_text l text ended h m ends =
 abbrev pub SoFar : Unpacker → List ℕ → Bool → Type 0
 SoFar s b ended = (l : List ℕ) × (text : List ℕ) × Turns l text s b ended
 
-module _ (s : Unpacker) (b : List ℕ) (ended : Bool) (after : List ℕ) (r : Turn) (h : Taken s b ended after r) (so : SoFar s b ended) where
+-- the state and the bytes at hand behind a turn
+behind_turn : (s : Unpacker) (b : List ℕ) (ended : Bool) (after : List ℕ) (r : Turn) → Turned s b ended after r → (w : Window) (e : Bool)
+    (x : List ℕ) → SoFar (turn s b ended).next x e → held w after ≡ x → w.ended ≡ e → SoFar r.unpacker (held w after) w.ended
+behind_turn s b ended after r h w e x k eb ee =
+    let next = (turn s b ended).next in
+    subst (λ (u : Unpacker). SoFar u (held w after) w.ended) (sym h.next)
+    (subst (λ (y : List ℕ). SoFar next y w.ended) (sym eb) (subst (SoFar next x) (sym ee) k))
+
+-- a refill behind a call that has asked for more
+filled_on : (s : Unpacker) (b : List ℕ) (ended : Bool) (after : List ℕ) (r : Turn) → Turned s b ended after r → SoFar s b ended → (w : Window)
+    → ended ≡ false → (turn s b ended).outcome ≡ outcome.More → Filled (left_by (turn s b ended) b) after w
+    → SoFar r.unpacker (held w after) w.ended
+filled_on s b true after r h so w going e f = absurd (never_both going refl)
+filled_on s b false after r h so w going e (got p some hand ee) =
+    let t = turn s b false in
+    behind_turn s b false after r h w false (left_by t b ++ p) (so.0 ++ p, so.1 ++ t.text, more so.2 e p) hand.bytes ee
+filled_on s b false after r h so w going e (end hand ee) =
+    let t = turn s b false in
+    behind_turn s b false after r h w true (left_by t b) (so.0, so.1 ++ t.text, last so.2 e) hand.bytes ee
+
+module _ (s : Unpacker) (b : List ℕ) (ended : Bool) (after : List ℕ) (r : Turn) (h : Turned s b ended after r) (so : SoFar s b ended) where
   abbrev t : Call
   t = turn s b ended
 
-  -- the state and the bytes at hand behind the turn
-  behind_turn : (e : Bool) (x : List ℕ) → SoFar t.next x e → held r.window after ≡ x → r.window.ended ≡ e
-      → SoFar r.unpacker (held r.window after) r.window.ended
-  behind_turn e x k eb ee =
-      subst (λ (u : Unpacker). SoFar u (held r.window after) r.window.ended) (sym h.next)
-      (subst (λ (y : List ℕ). SoFar t.next y r.window.ended) (sym eb) (subst (SoFar t.next x) (sym ee) k))
+  window : (o : Outcome) → t.outcome ≡ o → (w : Option Window) → r.window ≡ w → Follows (left_by t b) ended after w o
+  window o e w d =
+      subst (λ (y : Option Window). Follows (left_by t b) ended after y o) d
+      (subst (Follows (left_by t b) ended after r.window) e h.window)
 
--- two progresses that differ
-over_on : Over ≡ On → ⊥
-over_on e = let z : ◌≡◌ {A = ℕ} 0 1 = cc in omega arith
-
-failed_on : (why : Error) → Failed why ≡ On → ⊥
-failed_on why e = let z : ◌≡◌ {A = ℕ} 0 1 = cc in omega arith
-
-failed_over : (why : Error) → Failed why ≡ Over → ⊥
-failed_over why e = let z : ◌≡◌ {A = ℕ} 0 1 = cc in omega arith
-
--- a refill behind a call that has asked for more
-filled_on : (s : Unpacker) (b : List ℕ) (ended : Bool) (after : List ℕ) (r : Turn) (h : Taken s b ended after r) (so : SoFar s b ended)
-    → ended ≡ false → (turn s b ended).outcome ≡ outcome.More → Filled (left_by (turn s b ended) b) after r.window → r.window.progress
-    ≡ On
-    → SoFar r.unpacker (held r.window after) r.window.ended
-filled_on s b true after r h so going e f on = absurd (never_both going refl)
-filled_on s b false after r h so going e (got p some hand ee pr) on =
-    let t = turn s b false in
-    behind_turn s b false after r h so false (left_by t b ++ p) (so.0 ++ p, so.1 ++ t.text, more so.2 e p) hand.bytes ee
-filled_on s b false after r h so going e (end hand ee pr) on =
-    let t = turn s b false in behind_turn s b false after r h so true (left_by t b) (so.0, so.1 ++ t.text, last so.2 e) hand.bytes
-    ee
-filled_on s b false after r h so going e (failed why pr) on = absurd (failed_on why (sym pr ∙ on))
-
-filled_over : (b buf : List ℕ) (w : Window) → Filled b buf w → w.progress ≡ Over → ⊥
-filled_over b buf w (got p some hand ee pr) e = over_on (sym e ∙ pr)
-filled_over b buf w (end hand ee pr) e = over_on (sym e ∙ pr)
-filled_over b buf w (failed why pr) e = failed_over why (sym pr ∙ e)
-
-module _ (s : Unpacker) (b : List ℕ) (ended : Bool) (after : List ℕ) (r : Turn) (h : Taken s b ended after r) (so : SoFar s b ended) where
-  window : (o : Outcome) → (turn s b ended).outcome ≡ o → Follows (left_by (turn s b ended) b) ended after r.window o
-  window o e = subst (Follows (left_by (turn s b ended) b) ended after r.window) e h.window
-
-  on_by : Steps s b ended (turn s b ended) → r.window.progress ≡ On → SoFar r.unpacker (held r.window after) r.window.ended
-  on_by (stops v e zero-used) on = absurd (over_on (sym (window (outcome.Over v) e) ∙ on))
-  on_by (goes e some few fewer) on =
-      let t = turn s b ended in
-      let f = window outcome.Next e in
-      behind_turn s b ended after r h so ended (left_by t b) (so.0, so.1 ++ t.text, next so.2 e) f.0.bytes f.1
-  on_by (waits e stays zero-used going) on = filled_on s b ended after r h so going e (window outcome.More e) on
+  on_by : (w : Window) → r.window ≡ Some w → Steps s b ended t → SoFar r.unpacker (held w after) w.ended
+  on_by w on (stops v e zero-used) = let gone : Some w ≡ None = window (outcome.Over v) e (Some w) on in cc
+  on_by w on (goes e some few fewer) =
+      let f = window outcome.Next e (Some w) on in
+      behind_turn s b ended after r h w ended (left_by t b) (so.0, so.1 ++ t.text, next so.2 e) f.0.bytes f.1
+  on_by w on (waits e stays zero-used going) = filled_on s b ended after r h so w going e (window outcome.More e (Some w) on)
 
   -- one turn more
-  pub turn_on : r.window.progress ≡ On → SoFar r.unpacker (held r.window after) r.window.ended
-  turn_on on = on_by (turn_steps s b ended) on
+  pub turn_on : (w : Window) → r.window ≡ Some w → SoFar r.unpacker (held w after) w.ended
+  turn_on w on = on_by w on (turn_steps s b ended)
 
-  over_by : Steps s b ended (turn s b ended) → r.window.progress ≡ Over → Ended Over
+  over_by : Steps s b ended t → r.window ≡ None → Ended
   over_by (stops v e zero-used) over = (
     so.0,
-    so.1 ++ (turn s b ended).text,
+    so.1 ++ t.text,
     ended,
     record { before = so.1; s = s; b = b; v = v; turns = so.2; over = e; all = refl },
   )
-  over_by (goes e some few fewer) over = absurd (over_on (sym over ∙ (window outcome.Next e).2))
-  over_by (waits e stays zero-used going) over =
-      absurd (filled_over (left_by (turn s b ended) b) after r.window (window outcome.More e) over)
+  over_by (goes e some few fewer) over = absurd (window outcome.Next e None over)
+  over_by (waits e stays zero-used going) over = absurd (window outcome.More e None over)
 
   -- the verdict
-  pub turn_over : r.window.progress ≡ Over → Ended Over
+  pub turn_over : r.window ≡ None → Ended
   turn_over over = over_by (turn_steps s b ended) over

@@ -1,17 +1,15 @@
 -- One turn of the program: a call on the bytes at hand, and a refill of the buffer where it asks for more.
 use Rattle.std.specs.declared.io.Error.{Error}
-use Rattle.std.specs.Prelude.{ℕ, ◌-◌, ◌≤◌, ◌<◌, ◌≡◌, Bool, true, false, List, [], ◌++◌, length}
+use Rattle.std.specs.Prelude.{ℕ, ◌-◌, ◌≤◌, ◌<◌, ◌≡◌, Bool, true, false, List, [], ◌++◌, length, Option, None, IsSomeAnd, Result, Ok, Err}
 use Rattle.lists.specs.Parts.{part, put}
-use Rattle.cause.specs.declared.Verdict.{Verdict}
 use Rattle.unpacker.specs.Stepping.{turn, fresh_unpacker}
 use Rattle.unpacker.specs.Cutting.{left_by}
 use Rattle.unpacker.specs.declared.unpack.Unpacker.{Unpacker}
 use Rattle.unpacker.specs.declared.unpack.Outcome.{Outcome}
 use Rattle.unpacker.specs.declared.unpack.Outcome.TheVariants as outcome
-use Rattle.unpack.specs.declared.Progress.{Progress}
-use Rattle.unpack.specs.declared.Progress.TheVariants.{On, Over, Failed, Unsent}
 use Rattle.unpack.specs.declared.Window.{Window}
 use Rattle.unpack.specs.declared.Turn.{Turn}
+use Rattle.cause.specs.Checks.{Verdict}
 
 -- the bytes of a buffer that a window holds
 abbrev pub held : Window → List ℕ → List ℕ
@@ -23,23 +21,32 @@ pub record AtHand (w : Window) (buf b : List ℕ) : Type 0 where
   pub within : w.have ≤ length buf
   pub bytes : held w buf ≡ b
 
--- a refill behind the bytes b: more of them, the end of the input, or a read that has failed
+-- a refill behind the bytes b: more of them, or the end of the input
 pub data Filled (b buf : List ℕ) (w : Window) : Type 0 where
-  got : (p : List ℕ) → 0 < length p → AtHand w buf (b ++ p) → w.ended ≡ false → w.progress ≡ On → Filled b buf w
-  end : AtHand w buf b → w.ended ≡ true → w.progress ≡ On → Filled b buf w
-  failed : (e : Error) → w.progress ≡ Failed e → Filled b buf w
+  got : (p : List ℕ) → 0 < length p → AtHand w buf (b ++ p) → w.ended ≡ false → Filled b buf w
+  end : AtHand w buf b → w.ended ≡ true → Filled b buf w
 
 -- the window behind a call that has left the bytes b, by its outcome
-abbrev pub Follows : List ℕ → Bool → List ℕ → Window → Outcome → Type 0
-Follows b ended buf w (outcome.Over v) = w.progress ≡ Over
-Follows b ended buf w outcome.Next = AtHand w buf b × (w.ended ≡ ended) × (w.progress ≡ On)
-Follows b ended buf w outcome.More = Filled b buf w
+abbrev pub Follows : List ℕ → Bool → List ℕ → Option Window → Outcome → Type 0
+Follows b ended buf w (outcome.Over v) = w ≡ None
+Follows b ended buf w outcome.Next = IsSomeAnd w (λ x. AtHand x buf b × (x.ended ≡ ended))
+Follows b ended buf w outcome.More = IsSomeAnd w (Filled b buf)
+
+-- the same, or a read that has failed where the call has asked for more
+abbrev pub Followed : List ℕ → Bool → List ℕ → Outcome → Result (Option Window) Error → Type 0
+Followed b ended buf o (Ok w) = Follows b ended buf w o
+Followed b ended buf o (Err e) = o ≡ outcome.More
 
 -- a turn from a state with the bytes b at hand
-pub record Taken (s : Unpacker) (b : List ℕ) (ended : Bool) (buf : List ℕ) (r : Turn) : Type 0 where
+pub record Turned (s : Unpacker) (b : List ℕ) (ended : Bool) (buf : List ℕ) (r : Turn) : Type 0 where
   pub next : r.unpacker ≡ (turn s b ended).next
   pub written : r.written ≡ length (turn s b ended).text
   pub window : Follows (left_by (turn s b ended) b) ended buf r.window (turn s b ended).outcome
+
+-- a turn, or a read that has failed where the call has asked for more and has given no text
+abbrev pub Taken : Unpacker → List ℕ → Bool → List ℕ → Result Turn Error → Type 0
+Taken s b ended buf (Ok r) = Turned s b ended buf r
+Taken s b ended buf (Err e) = ((turn s b ended).outcome ≡ outcome.More) × ((turn s b ended).text ≡ [])
 
 -- the room behind a turn: the text of the call at its front
 abbrev pub printed : Unpacker → List ℕ → Bool → List ℕ → List ℕ
@@ -66,9 +73,6 @@ pub record Told (l text : List ℕ) (ended : Bool) : Type 0 where
   pub over : (turn s b ended).outcome ≡ outcome.Over v
   pub all : text ≡ before ++ (turn s b ended).text
 
--- where the program ends: a chain of turns up to the verdict, or a read or a write that has failed
-abbrev pub Ended : Progress → Type 0
-Ended On = ⊥
-Ended Over = (l : List ℕ) × (text : List ℕ) × (ended : Bool) × Told l text ended
-Ended (Failed e) = Unit {0}
-Ended (Unsent e) = Unit {0}
+-- where the program ends: a chain of turns up to the verdict
+abbrev pub Ended : Type 0
+Ended = (l : List ℕ) × (text : List ℕ) × (ended : Bool) × Told l text ended

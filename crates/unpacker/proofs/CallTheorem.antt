@@ -12,12 +12,9 @@ use borrow.Author.Tests.{ltb-true, ltb-false, leb-true, leb-false, lt-ltb, le-lt
 use Rattle.lists.specs.Pick.{pick}
 use Rattle.lists.proofs.Tests.{cases}
 use Rattle.cause.specs.declared.Cause.TheVariants.{BrokenRecord, TooLong, InvalidState}
-use Rattle.cause.specs.declared.Verdict.{Verdict}
-use Rattle.cause.specs.declared.Verdict.TheVariants.{Accepted, Refused}
 use Rattle.container.specs.declared.grant.Grant.{Grant}
-use Rattle.record.specs.Number.{read_number}
+use Rattle.record.specs.Number.{read_number, Value}
 use Rattle.record.specs.declared.number.Number.{Number}
-use Rattle.record.specs.declared.number.Number.TheVariants.{Broken, Value}
 use Rattle.record.proofs.NumberLaws.{read_small}
 use Rattle.record.proofs.NumberTakes.{Takes, takes_number, number_append}
 use Rattle.reader.specs.Reading.{reader_with, records, reading}
@@ -34,6 +31,8 @@ use Rattle.unpacker.specs.declared.unpack.Unpacker.{Unpacker}
 use Rattle.unpacker.proofs.ReadingLaws.{done_valid}
 use Rattle.unpacker.proofs.StateLaws.{new_none, turn_bad, turn_new, turn_running, text_bad, text_new}
 use Rattle.unpacker.proofs.StateLaws.{text_running, State, bad, new, runs, state_of}
+use Rattle.cause.specs.Checks.{Verdict, Accepted, Refused}
+use Rattle.std.specs.Prelude.{Option, Some, None}
 
 -- ---- the containers, one by one
 
@@ -79,18 +78,18 @@ started_runs : (f u : ℕ) (b : List ℕ) → read_number b ≡ Value f u → f 
 started_runs f u b e small =
     let one : u ≡ 1 = read_small b f u e (omega arith) in record { few = omega arith; reached = one; kept = rw (lt-ltb f 2 small) }
 
-begin_cases : (s : Unpacker) (b m : List ℕ) → s.entries ≡ 0 → (r : Number) → read_number b ≡ r
+begin_cases : (s : Unpacker) (b m : List ℕ) → s.entries ≡ 0 → (r : Option Number) → read_number b ≡ r
     → text_behind (b ++ m) r ≡ onward (begin_by s r) b m
-begin_cases s b m z Broken e = line_alone s (Refused BrokenRecord 0) b m _ (ap (λ (k : ℕ). verdict_line k (Refused BrokenRecord 0)) (sym z))
-begin_cases s b m z (Value f u) e = ⊎_elim good other (cases (ltb f 2))
+begin_cases s b m z None e = line_alone s (Refused BrokenRecord 0) b m _ (ap (λ (k : ℕ). verdict_line k (Refused BrokenRecord 0)) (sym z))
+begin_cases s b m z (Some number) e = ⊎_elim good other (cases (ltb number.value 2))
   where
-    good : ltb f 2 ≡ true → text_behind (b ++ m) (Value f u) ≡ onward (begin_by s (Value f u)) b m
+    good : ltb number.value 2 ≡ true → text_behind (b ++ m) (Value number.value number.used) ≡ onward (begin_by s (Value number.value number.used)) b m
     good t =
-        let takes : Takes (Value f u) 5 (length b) = subst (λ (r : Number). Takes r 5 (length b)) e (takes_number b) in
-        rw t (ap (λ (x : List ℕ). containers_text max_containers (reader_with f []) 0 u x) (drop-append-le u b m takes.1.1)
-        ∙ sym (text_running (started f u) (drop u b ++ m) (started_runs f u b e (ltb-true f 2 t))))
+        let takes : Takes (Value number.value number.used) 5 (length b) = subst (λ (r : Option Number). Takes r 5 (length b)) e (takes_number b) in
+        rw t (ap (λ (x : List ℕ). containers_text max_containers (reader_with number.value []) 0 number.used x) (drop-append-le number.used b m takes.1.1)
+        ∙ sym (text_running (started number.value number.used) (drop number.used b ++ m) (started_runs number.value number.used b e (ltb-true number.value 2 t))))
 
-    other : ltb f 2 ≡ false → text_behind (b ++ m) (Value f u) ≡ onward (begin_by s (Value f u)) b m
+    other : ltb number.value 2 ≡ false → text_behind (b ++ m) (Value number.value number.used) ≡ onward (begin_by s (Value number.value number.used)) b m
     other t = rw t (line_alone s (Refused InvalidState 0) b m _ (ap (λ (k : ℕ). verdict_line k (Refused InvalidState 0)) (sym z)))
 
 -- nothing that follows changes the number

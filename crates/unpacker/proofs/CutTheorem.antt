@@ -13,11 +13,8 @@ use Rattle.lists.specs.Parts.{join_all}
 use Rattle.lists.proofs.Tests.{cases, never_both}
 use Rattle.lists.proofs.PickLaws.{pick_both, pick_by}
 use Rattle.cause.specs.declared.Cause.TheVariants.{BrokenRecord, InvalidState, TooLong}
-use Rattle.cause.specs.declared.Verdict.{Verdict}
-use Rattle.cause.specs.declared.Verdict.TheVariants.{Accepted, Refused}
-use Rattle.record.specs.Number.{read_number}
+use Rattle.record.specs.Number.{read_number, Value}
 use Rattle.record.specs.declared.number.Number.{Number}
-use Rattle.record.specs.declared.number.Number.TheVariants.{Broken, Value}
 use Rattle.record.proofs.NumberTakes.{Takes, takes_number}
 use Rattle.reader.specs.Reading.{reading}
 use Rattle.reader.specs.declared.reader.Reader.{Reader}
@@ -32,6 +29,8 @@ use Rattle.unpacker.specs.declared.unpack.Outcome.TheVariants.{More, Next, Over}
 use Rattle.unpacker.specs.declared.unpack.Unpacker.{Unpacker}
 use Rattle.unpacker.proofs.StateLaws.{turn_bad, turn_new, turn_running, State, bad, new, runs, state_of}
 use Rattle.unpacker.proofs.CallTheorem.{onward, one_call}
+use Rattle.cause.specs.Checks.{Verdict, Accepted, Refused}
+use Rattle.std.specs.Prelude.{Option, Some, None}
 
 -- ---- a call gives the verdict, uses a byte and goes on, or asks for more of an input that has not ended
 
@@ -55,15 +54,15 @@ left_new s z = rw (eq-eqb s.offset 0 z)
 left_running : (s : Unpacker) → (s.offset ≡ 0 → ⊥) → calls_left s ≡ (max_containers + 1) - s.entries
 left_running s d = rw (ne_eqb s.offset 0 d)
 
-begin_steps : (s : Unpacker) (b : List ℕ) (ended : Bool) → s.offset ≡ 0 → (r : Number) → read_number b ≡ r → Steps s b ended (begin_by s r)
-begin_steps s b ended z Broken e = stops (Refused BrokenRecord 0) refl refl
-begin_steps s b ended z (Value f u) e =
-    let takes : Takes (Value f u) 5 (length b) = subst (λ (r : Number). Takes r 5 (length b)) e (takes_number b) in
+begin_steps : (s : Unpacker) (b : List ℕ) (ended : Bool) → s.offset ≡ 0 → (r : Option Number) → read_number b ≡ r → Steps s b ended (begin_by s r)
+begin_steps s b ended z None e = stops (Refused BrokenRecord 0) refl refl
+begin_steps s b ended z (Some number) e =
+    let takes : Takes (Value number.value number.used) 5 (length b) = subst (λ (r : Option Number). Takes r 5 (length b)) e (takes_number b) in
     let some = takes.0 in
-    let fewer : pick (eqb u 0) (max_containers + 2) ((max_containers + 1) - 0) < calls_left s = rw (ne_eqb u 0 (λ (q : u ≡ 0). omega arith), left_new s z)
+    let fewer : pick (eqb number.used 0) (max_containers + 2) ((max_containers + 1) - 0) < calls_left s = rw (ne_eqb number.used 0 (λ (q : number.used ≡ 0). omega arith), left_new s z)
     (omega arith) in
-    ⊎_elim (λ (t : ltb f 2 ≡ true). rw t (goes refl some takes.1.1 fewer))
-    (λ (t : ltb f 2 ≡ false). rw t (stops (Refused InvalidState 0) refl refl)) (cases (ltb f 2))
+    ⊎_elim (λ (t : ltb number.value 2 ≡ true). rw t (goes refl some takes.1.1 fewer))
+    (λ (t : ltb number.value 2 ≡ false). rw t (stops (Refused InvalidState 0) refl refl)) (cases (ltb number.value 2))
 
 running_some : (s : Unpacker) → Running s → s.offset ≡ 0 → ⊥
 running_some s r z = omega (arith, r.reached)

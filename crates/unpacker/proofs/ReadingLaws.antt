@@ -6,9 +6,7 @@ use mathlib.Core.List.{List}
 use native.Mathlib.Omega.{arith}
 use lib.ListN.{length, length-take}
 use borrow.Author.Tests.{leb-true}
-use Rattle.cause.specs.Checks.{first_fault, when_accepted}
-use Rattle.cause.specs.declared.Verdict.{Verdict}
-use Rattle.cause.specs.declared.Verdict.TheVariants.{Accepted, Refused}
+use Rattle.cause.specs.Checks.{first_fault, when_accepted, Verdict, Accepted}
 use Rattle.cause.proofs.CheckLaws.{accepted_pass}
 use Rattle.container.specs.Layout.{format_of}
 use Rattle.container.specs.Grants.{header_grant}
@@ -23,10 +21,11 @@ use Rattle.reader.proofs.EndingLaws.{records_listed}
 use Rattle.reader.proofs.ReadLaws.{judge_accepted_exactly, read_accepted_exactly}
 use Rattle.text.specs.Hex.{message_lines, lines_of}
 use Rattle.text.proofs.MessageLaws.{lines_messages}
+use Rattle.std.specs.Prelude.{Ok, Err}
 
 done_accepted : (v : Verdict) (k n : ℕ) (f g : Grant) → answer_of v k f ≡ answer.Accepted n g → (v ≡ Accepted) × (n ≡ k)
-done_accepted Accepted k n f g e = (refl, cc)
-done_accepted (Refused c p) k n f g e = let z : ◌≡◌ {A = ℕ} 0 1 = cc in absurd (omega arith)
+done_accepted (Ok _) k n f g e = (refl, cc)
+done_accepted (Err fault) k n f g e = let z : ◌≡◌ {A = ℕ} 0 1 = cc in absurd (omega arith)
 
 -- the lines of a container are those of whole messages, whose records the reading hands out
 pub record Lines (s : Reader) (c : List ℕ) : Type 0 where

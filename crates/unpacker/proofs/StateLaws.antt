@@ -9,13 +9,13 @@ use lib.Dec.{eqb, leb}
 use borrow.Author.Tests.{lt-leb, le-leb, leb-true, eq-eqb, ne_eqb, eqb-true, eqb-false}
 use Rattle.lists.proofs.Tests.{cases, and_left, and_right, and_both}
 use Rattle.cause.specs.declared.Cause.TheVariants.{InvalidState}
-use Rattle.cause.specs.declared.Verdict.TheVariants.{Refused}
 use Rattle.record.specs.Number.{read_number}
 use Rattle.reader.specs.Reading.{reader_ok}
 use Rattle.text.specs.Lines.{verdict_line}
 use Rattle.unpacker.specs.Unpacking.{max_containers, containers_text, text_behind}
 use Rattle.unpacker.specs.Stepping.{over, beginning, running, Running, valid_state, turn, text_from}
 use Rattle.unpacker.specs.declared.unpack.Unpacker.{Unpacker}
+use Rattle.cause.specs.Checks.{Refused}
 
 module _ (s : Unpacker) where
   abbrev far : Bool

@@ -13,17 +13,14 @@ use Rattle.lists.specs.Pick.{pick}
 use Rattle.lists.specs.Parts.{put}
 use Rattle.lists.proofs.Tests.{cases}
 use Rattle.lists.proofs.PutLaws.{put_none}
-use Rattle.cause.specs.Checks.{first_fault, when_accepted}
+use Rattle.cause.specs.Checks.{first_fault, when_accepted, given, Verdict, Accepted, Refused}
 use Rattle.cause.specs.declared.Cause.{Cause}
 use Rattle.cause.specs.declared.Cause.TheVariants.{BrokenRecord, TooLong, InvalidState}
-use Rattle.cause.specs.declared.Verdict.{Verdict}
-use Rattle.cause.specs.declared.Verdict.TheVariants.{Accepted, Refused}
 use Rattle.container.specs.declared.grant.Grant.{Grant}
-use Rattle.record.specs.Number.{read_number}
+use Rattle.record.specs.Number.{read_number, Broken, Value}
 use Rattle.record.specs.declared.number.Number.{Number}
-use Rattle.record.specs.declared.number.Number.TheVariants.{Broken, Value}
-use Rattle.reader.specs.Reading.{new_reader, read_checks, records, reading, read_room}
-use Rattle.reader.specs.declared.reader.Created.{Created}
+use Rattle.reader.specs.Reading.{reader_with, new_reader, read_checks, records, reading, read_room}
+use Rattle.reader.specs.declared.reader.Reader.{Reader}
 use Rattle.reader.specs.declared.reader.Step.{Step}
 use Rattle.reader.specs.declared.reader.Answer.TheVariants as answer
 use Rattle.text.specs.Lines.{verdict_line, answer_of, room_of}
@@ -35,6 +32,8 @@ use Rattle.unpacker.specs.declared.unpack.Outcome.TheVariants.{Next, Over}
 use Rattle.unpacker.specs.declared.unpack.Unpacker.{Unpacker}
 use Rattle.unpacker.specs.declared.unpack.Unpacked.{Unpacked}
 use Rattle.unpacker.proofs.ReadingLaws.{done, done_sized, done_few}
+use Rattle.cause.specs.declared.Fault.{Fault}
+use Rattle.std.specs.Prelude.{Option, Result, Ok, Err}
 
 -- the code has made the turn t: its answer, and the text at the front of the room
 abbrev pub Made : Turn → Unpacked → List ℕ → List ℕ → Type 0
@@ -59,50 +58,63 @@ concluded s v d₀ d n big en ed =
           (λ (b : Bool). pick b d₀ (put 0 line d₀)) t,
     )
 
+-- the verdict of a fault that has been made
+pub over_as : (s : Unpacker) (f : Fault) (k : Cause) (p : ℕ) {t : Turn} → f ≡ record { cause = k; place = p } → over s (Refused k p) ≡ t → over s (Err f) ≡ t
+over_as s f k p e h = ap (λ (x : Fault). over s (Err x)) e ∙ h
+
 -- ---- the format
 
-module _ (s : Unpacker) (b : List ℕ) (r : Number) (er : r ≡ read_number b) where
+-- the verdict on a new reader, and the reader, or another one
+verdict_in : Result Reader Fault → Verdict
+verdict_in (Ok _) = Accepted
+verdict_in (Err fault) = Err fault
+
+reader_in : Reader → Result Reader Fault → Reader
+reader_in other (Ok reader) = reader
+reader_in other (Err _) = other
+
+module _ (s : Unpacker) (b : List ℕ) (r : Option Number) (er : r ≡ read_number b) where
   pub format_broken : r ≡ Broken → over s (Refused BrokenRecord 0) ≡ begin_by s (read_number b)
   format_broken q = ap (begin_by s) (sym q ∙ er)
 
-  module _ (f u : ℕ) (q : r ≡ Value f u) (o : Created) (eo : o ≡ new_reader f) where
-    verdict : o.verdict ≡ (new_reader f).verdict
-    verdict = ap (λ (x : Created). x.verdict) eo
-
+  module _ (f u : ℕ) (q : r ≡ Value f u) (o : Result Reader Fault) (eo : o ≡ new_reader f) where
     read : begin_by s (Value f u) ≡ begin_by s (read_number b)
     read = ap (begin_by s) (sym q ∙ er)
 
-    pub format_refused : (c : Cause) (p : ℕ) → o.verdict ≡ Refused c p → over s o.verdict ≡ begin_by s (read_number b)
-    format_refused c p e =
-        ⊎_elim (λ (t : ltb f 2 ≡ true). absurd (never t))
-        (λ (t : ltb f 2 ≡ false). ap (over s) (verdict ∙ ap (λ (x : Bool). pick x Accepted (Refused InvalidState 0)) t) ∙ sym (other t) ∙ read)
-        (cases (ltb f 2))
-      where
-        never : ltb f 2 ≡ true → ⊥
-        never t = let k = rw t at (sym verdict ∙ e) in let z : ◌≡◌ {A = ℕ} 0 1 = cc in omega arith
+    by_format : (t : Bool) → ltb f 2 ≡ t → o ≡ given (pick t Accepted (Refused InvalidState 0)) (reader_with f [])
+    by_format t h = eo ∙ ap (λ (x : Bool). given (pick x Accepted (Refused InvalidState 0)) (reader_with f [])) h
 
-        other : ltb f 2 ≡ false → begin_by s (Value f u) ≡ over s (Refused InvalidState 0)
+    pub format_refused : (fault : Fault) → o ≡ Err fault → over s (Err fault) ≡ begin_by s (read_number b)
+    unfolding verdict_in
+    format_refused fault e = ⊎_elim (λ (t : ltb f 2 ≡ true). absurd (never (sym (by_format true t) ∙ e))) other (cases (ltb f 2))
+      where
+        never : Ok (reader_with f []) ≡ Err fault → ⊥
+        never g = let z : ◌≡◌ {A = ℕ} 0 1 = cc in omega arith
+
+        other : ltb f 2 ≡ false → over s (Err fault) ≡ begin_by s (read_number b)
         other t =
-            ap (λ (x : Bool). pick x (record { next = started f u; used = u; text = []; outcome = Next }) (over s (Refused InvalidState 0)))
-            t
+            ap (λ (x : Result Reader Fault). over s (verdict_in x)) (sym e ∙ by_format false t)
+            ∙ sym (ap (λ (x : Bool). pick x (record { next = started f u; used = u; text = []; outcome = Next }) (over s (Refused InvalidState 0))) t)
+            ∙ read
 
-    pub format_read : (d : List ℕ) → o.verdict ≡ Accepted
+    pub format_read : (reader : Reader) (d : List ℕ) → o ≡ Ok reader
         → Made (begin_by s (read_number b))
-        (record { unpacker = record { reader = o.reader; entries = 0; offset = u }; used = u; written = 0; outcome = Next }) d d
-    format_read d e = ⊎_elim yes (λ (t : ltb f 2 ≡ false). absurd (never t)) (cases (ltb f 2))
+        (record { unpacker = record { reader = reader; entries = 0; offset = u }; used = u; written = 0; outcome = Next }) d d
+    unfolding reader_in
+    format_read reader d e = ⊎_elim yes (λ (t : ltb f 2 ≡ false). absurd (never (sym (by_format false t) ∙ e))) (cases (ltb f 2))
       where
-        never : ltb f 2 ≡ false → ⊥
-        never t = let k = rw t at (sym verdict ∙ e) in let z : ◌≡◌ {A = ℕ} 0 1 = cc in omega arith
+        never : ◌≡◌ {A = Result Reader Fault} (Err (record { cause = InvalidState; place = 0 })) (Ok reader) → ⊥
+        never g = let z : ◌≡◌ {A = ℕ} 0 1 = cc in omega arith
 
         yes : ltb f 2 ≡ true
             → Made (begin_by s (read_number b))
-            (record { unpacker = record { reader = o.reader; entries = 0; offset = u }; used = u; written = 0; outcome = Next }) d d
+            (record { unpacker = record { reader = reader; entries = 0; offset = u }; used = u; written = 0; outcome = Next }) d d
         yes t =
             as_turn (record { next = started f u; used = u; text = []; outcome = Next }) (begin_by s (read_number b)) _ d d
             (sym (ap (λ (x : Bool). pick x (record { next = started f u; used = u; text = []; outcome = Next })
             (over s (Refused InvalidState 0))) t) ∙ read) (
-              ap (λ (x : Created). record
-                  { unpacker = record { reader = x.reader; entries = 0; offset = u }; used = u; written = 0; outcome = Next }) eo,
+              ap (λ (x : Result Reader Fault). record
+                  { unpacker = record { reader = reader_in reader x; entries = 0; offset = u }; used = u; written = 0; outcome = Next }) (sym e ∙ by_format true t),
               sym
                   (put_none 0 d),
             )

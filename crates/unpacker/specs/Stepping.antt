@@ -1,13 +1,10 @@
 -- An input read in parts: what one call makes of the bytes at hand.
-use Rattle.std.specs.Prelude.{ℕ, ◌+◌, ◌-◌, ◌*◌, ◌≤◌, ◌≡◌, Bool, true, ◌&&◌, List, [], length, take, eqb, ltb, leb}
+use Rattle.std.specs.Prelude.{ℕ, ◌+◌, ◌-◌, ◌*◌, ◌≤◌, ◌≡◌, Bool, true, ◌&&◌, List, [], length, take, eqb, ltb, leb, Option, Some, None}
 use Rattle.lists.specs.Pick.{pick}
 use Rattle.lists.specs.Parts.{put}
 use Rattle.cause.specs.declared.Cause.TheVariants.{RoomTooSmall, BrokenRecord, TooLong, InvalidState}
-use Rattle.cause.specs.declared.Verdict.{Verdict}
-use Rattle.cause.specs.declared.Verdict.TheVariants.{Accepted, Refused}
 use Rattle.record.specs.Number.{read_number}
 use Rattle.record.specs.declared.number.Number.{Number}
-use Rattle.record.specs.declared.number.Number.TheVariants.{Broken, Value}
 use Rattle.reader.specs.Reading.{reader_ok, reader_with, records, reading, room_size}
 use Rattle.reader.specs.declared.reader.Reader.{Reader}
 use Rattle.reader.specs.declared.reader.Answer.{Answer}
@@ -20,6 +17,7 @@ use Rattle.unpacker.specs.declared.unpack.Outcome.TheVariants.{More, Next, Over}
 use Rattle.unpacker.specs.declared.unpack.Unpacker.{Unpacker}
 use Rattle.unpacker.specs.declared.unpack.Unpacked.{Unpacked}
 use Rattle.container.specs.Layout.{container_size}
+use Rattle.cause.specs.Checks.{Verdict, Accepted, Refused}
 
 -- the least room: two bytes for each of the 352 that a container's records take at most
 abbrev pub min_room : ℕ
@@ -44,9 +42,9 @@ over s v = record { next = s; used = 0; text = verdict_line s.entries v; outcome
 abbrev pub started : ℕ → ℕ → Unpacker
 started f u = record { reader = reader_with f []; entries = 0; offset = u }
 
-abbrev pub begin_by : Unpacker → Number → Turn
-begin_by s Broken = over s (Refused BrokenRecord 0)
-begin_by s (Value f u) = pick (ltb f 2) (record { next = started f u; used = u; text = []; outcome = Next }) (over s (Refused InvalidState 0))
+abbrev pub begin_by : Unpacker → Option Number → Turn
+begin_by s None = over s (Refused BrokenRecord 0)
+begin_by s (Some number) = pick (ltb number.value 2) (record { next = started number.value number.used; used = number.used; text = []; outcome = Next }) (over s (Refused InvalidState 0))
 
 -- the most bytes of a number
 abbrev pub most_number : ℕ

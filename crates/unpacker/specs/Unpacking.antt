@@ -1,11 +1,9 @@
 -- The text printed for an input, a format and containers: the messages as lines of hex, and then the verdict.
-use Rattle.std.specs.Prelude.{ℕ, zero, suc, ◌+◌, List, [], ◌++◌, length, take, drop, eqb, ltb}
+use Rattle.std.specs.Prelude.{ℕ, zero, suc, ◌+◌, List, [], ◌++◌, length, take, drop, eqb, ltb, Option, Some, None}
 use Rattle.lists.specs.Pick.{pick}
 use Rattle.cause.specs.declared.Cause.TheVariants.{BrokenRecord, TooLong, InvalidState}
-use Rattle.cause.specs.declared.Verdict.TheVariants.{Accepted, Refused}
 use Rattle.record.specs.Number.{read_number}
 use Rattle.record.specs.declared.number.Number.{Number}
-use Rattle.record.specs.declared.number.Number.TheVariants.{Broken, Value}
 use Rattle.reader.specs.Reading.{reader_with, records, reading, room_size}
 use Rattle.reader.specs.declared.reader.Reader.{Reader}
 use Rattle.reader.specs.declared.reader.Answer.{Answer}
@@ -13,6 +11,7 @@ use Rattle.reader.specs.declared.reader.Answer.TheVariants as answer
 use Rattle.text.specs.Lines.{verdict_line}
 use Rattle.text.specs.Hex.{lines_of}
 use Rattle.container.specs.Layout.{container_size}
+use Rattle.cause.specs.Checks.{Accepted, Refused}
 
 -- as many containers as have an offset in 64 bits
 abbrev pub max_containers : ℕ
@@ -33,9 +32,9 @@ containers_text (suc k) s e o l =
     (containers_text k (reading s (take container_size l) room_size).reader (e + 1) (o + container_size) (drop container_size l))))
 
 -- by the number at the front of the input: 17, 19, then the containers behind it
-abbrev pub text_behind : List ℕ → Number → List ℕ
-text_behind l Broken = verdict_line 0 (Refused BrokenRecord 0)
-text_behind l (Value f u) = pick (ltb f 2) (containers_text max_containers (reader_with f []) 0 u (drop u l)) (verdict_line 0 (Refused InvalidState 0))
+abbrev pub text_behind : List ℕ → Option Number → List ℕ
+text_behind l None = verdict_line 0 (Refused BrokenRecord 0)
+text_behind l (Some number) = pick (ltb number.value 2) (containers_text max_containers (reader_with number.value []) 0 number.used (drop number.used l)) (verdict_line 0 (Refused InvalidState 0))
 
 unfoldable pub unpack_text : List ℕ → List ℕ
 unpack_text l = text_behind l (read_number l)

@@ -54,10 +54,8 @@ impl Unpacker {
     pub fn fresh() -> Unpacker
         ensures { result ≡ fresh_unpacker }
     {
-        let created = Reader::fresh(0);
-        let reader = created.reader;
         Unpacker {
-            reader: reader,
+            reader: Reader::empty(0),
             entries: 0,
             offset: 0,
         }
@@ -95,8 +93,7 @@ impl Unpacker {
     }
 
     // A call that writes the verdict.
-    fn conclude(self, verdict: Verdict, room: &mut [u8]) -> Unpacked
-        requires { min_room ≤ length room.old }
+    fn conclude(self, verdict: Verdict, room: &mut [u8; MIN_ROOM]) -> Unpacked
         ensures call { result ≡ answered (over self verdict) }
         ensures room { room.new ≡ put 0 (verdict_line self.entries verdict) room.old }
     {
@@ -110,38 +107,30 @@ impl Unpacker {
     }
 
     // Reads the format.
-    fn read_format(self, bytes: &[u8], room: &mut [u8]) -> Unpacked
-        requires { min_room ≤ length room.old }
+    fn read_format(self, bytes: &[u8], room: &mut [u8; MIN_ROOM]) -> Unpacked
         ensures call { result ≡ answered (begin_by self (read_number bytes.now)) }
         ensures room { room.new ≡ put 0 (begin_by self (read_number bytes.now)).text room.old }
     {
-        let number = read_number(bytes);
-        match number {
-            Number::Broken => self.conclude(Verdict::Refused(Cause::BrokenRecord, 0), room),
-            Number::Value { value, used } => {
-                let created = Reader::fresh(value);
-                let verdict = created.verdict;
-                if let Verdict::Refused(_, _) = verdict {
-                    return self.conclude(verdict, room);
-                }
-                let reader = created.reader;
-                Unpacked {
-                    unpacker: Unpacker {
-                        reader: reader,
-                        entries: 0,
-                        offset: used as u64,
-                    },
-                    used: used,
-                    written: 0,
-                    outcome: Outcome::Next,
-                }
-            }
+        let Some(Number { value, used }) = read_number(bytes) else {
+            return self.conclude(Err(Cause::BrokenRecord.at(0)), room);
+        };
+        match Reader::fresh(value) {
+            Err(fault) => self.conclude(Err(fault), room),
+            Ok(reader) => Unpacked {
+                unpacker: Unpacker {
+                    reader: reader,
+                    entries: 0,
+                    offset: used as u64,
+                },
+                used: used,
+                written: 0,
+                outcome: Outcome::Next,
+            },
         }
     }
 
     // Reads the format once all its bytes are there.
-    fn begin(self, bytes: &[u8], ended: bool, room: &mut [u8]) -> Unpacked
-        requires { min_room ≤ length room.old }
+    fn begin(self, bytes: &[u8], ended: bool, room: &mut [u8; MIN_ROOM]) -> Unpacked
         ensures call { result ≡ answered (beginning self bytes.now ended) }
         ensures room { room.new ≡ put 0 (beginning self bytes.now ended).text room.old }
     {
@@ -155,8 +144,8 @@ impl Unpacker {
     }
 
     // Reads a container and writes the messages that end in it.
-    fn read_container(self, container: &[u8], room: &mut [u8]) -> Unpacked
-        requires { Running self × (self.entries < max_containers) × (min_room ≤ length room.old) }
+    fn read_container(self, container: &[u8], room: &mut [u8; MIN_ROOM]) -> Unpacked
+        requires { Running self × (self.entries < max_containers) }
         ensures call { result ≡ answered (container_turn self container.now) }
         ensures room { room.new ≡ put 0 (container_turn self container.now).text room.old }
     {
@@ -165,7 +154,7 @@ impl Unpacker {
         let step = reader.read(container, &mut records);
         let answer = step.answer;
         match answer {
-            Answer::Refused { cause, place } => self.conclude(Verdict::Refused(cause, place), room),
+            Answer::Refused { cause, place } => self.conclude(Err(cause.at(place)), room),
             Answer::Accepted { written, grant: _ } => {
                 let printed = write_messages(&records[0..written], room);
                 let next = step.reader;
@@ -184,23 +173,23 @@ impl Unpacker {
     }
 
     // Reads the next container once all its bytes are there.
-    fn read_next(self, bytes: &[u8], ended: bool, room: &mut [u8]) -> Unpacked
-        requires { Running self × (min_room ≤ length room.old) }
+    fn read_next(self, bytes: &[u8], ended: bool, room: &mut [u8; MIN_ROOM]) -> Unpacked
+        requires { Running self }
         ensures call { result ≡ answered (running self bytes.now ended) }
         ensures room { room.new ≡ put 0 (running self bytes.now ended).text room.old }
     {
         if bytes.len() == 0 {
             if ended {
-                return self.conclude(Verdict::Accepted, room);
+                return self.conclude(Ok(()), room);
             }
             return self.wait();
         }
         if MAX_CONTAINERS <= self.entries {
-            return self.conclude(Verdict::Refused(Cause::TooLong, 0), room);
+            return self.conclude(Err(Cause::TooLong.at(0)), room);
         }
         if bytes.len() < CONTAINER {
             if ended {
-                return self.conclude(Verdict::Refused(Cause::BrokenRecord, self.offset), room);
+                return self.conclude(Err(Cause::BrokenRecord.at(self.offset)), room);
             }
             return self.wait();
         }
@@ -213,20 +202,20 @@ impl Unpacker {
         ensures call { result ≡ consuming self bytes.now ended (length room.old) }
         ensures room { room.new ≡ consumed_room self bytes.now ended room.old }
     {
-        if room.len() < MIN_ROOM {
+        let Some(front) = room.first_chunk_mut::<MIN_ROOM>() else {
             return Unpacked {
                 unpacker: self,
                 used: 0,
                 written: 0,
-                outcome: Outcome::Over(Verdict::Refused(Cause::RoomTooSmall, 0)),
+                outcome: Outcome::Over(Err(Cause::RoomTooSmall.at(0))),
             };
-        }
+        };
         if !self.is_valid() {
-            return self.conclude(Verdict::Refused(Cause::InvalidState, 0), room);
+            return self.conclude(Err(Cause::InvalidState.at(0)), front);
         }
         if self.offset == 0 {
-            return self.begin(bytes, ended, room);
+            return self.begin(bytes, ended, front);
         }
-        self.read_next(bytes, ended, room)
+        self.read_next(bytes, ended, front)
     }
 }

@@ -12,12 +12,10 @@ use borrow.Author.Tests.{le-ltb, lt-leb, ne_eqb, ltb-false, leb-false, eqb-false
 use Rattle.lists.specs.Parts.{part, IsBytes}
 use Rattle.lists.proofs.Tests.{cases, T_true, true_t}
 use Rattle.lists.proofs.PartLaws.{bytes_drop}
-use Rattle.cause.specs.Checks.{Check, check, first_fault, or_else}
+use Rattle.cause.specs.Checks.{Check, check, first_fault, or_else, Verdict, Accepted, Refused}
 use Rattle.cause.proofs.CheckLaws.{first_append}
 use Rattle.cause.specs.declared.Cause.{Cause}
 use Rattle.cause.specs.declared.Cause.TheVariants.{BrokenRecord}
-use Rattle.cause.specs.declared.Verdict.{Verdict}
-use Rattle.cause.specs.declared.Verdict.TheVariants.{Accepted, Refused}
 use Rattle.container.specs.Layout.{format_of}
 use Rattle.container.specs.Grants.{plane_allowed}
 use Rattle.container.specs.declared.grant.Grant.{Grant}
@@ -25,7 +23,6 @@ use Rattle.message.specs.Heads.{is_message}
 use Rattle.record.specs.Number.{number, read_number}
 use Rattle.record.specs.Records.{record_of, records_of, AllMessages, cut, first_of, message_of, fault_from, list_fault}
 use Rattle.record.specs.declared.number.Number.{Number}
-use Rattle.record.specs.declared.number.Number.TheVariants.{Broken, Value}
 use Rattle.record.specs.declared.list.First as list
 use Rattle.record.specs.declared.list.First.TheVariants.{Empty, Bad, Whole}
 use Rattle.record.proofs.RecordLaws.{first_splits, first_written, fault_next, fault_bad, fault_start, list_broken}
@@ -36,20 +33,21 @@ use Rattle.writer.specs.declared.writer.Answer.TheVariants as answer
 use Rattle.writer.proofs.AnswerLaws.{fill_answer_refused, fill_answer_accepted}
 use Rattle.cause.proofs.NamedLaws.{turn_of}
 use Rattle.writer.proofs.FillCells.{ListCells, FillCells, long, broken}
-use Rattle.cause.proofs.FirstLaws.{Fails, Rises, rises_from, Sounds, First, None, Lists, listed_first, listed_none}
+use Rattle.cause.proofs.FirstLaws.{Fails, Rises, rises_from, Sounds, First, None as NoFault, Lists, listed_first, listed_none}
 use Rattle.cause.proofs.RankedLaws.{ranked, tests_ranked, fails_as, Ranked, chain}
 use Rattle.lists.proofs.FailLaws.{guard_fails, fail_guard, and_fails, fail_left, fail_right, not_zero, zero_not}
+use Rattle.std.specs.Prelude.{Ok, Err, Option, Some, None}
 
 -- ---- a broken record
 
-no_empty : (l : List ℕ) (r : Number) → cut l r ≡ Empty → ⊥
-no_empty l Broken e = let z : ◌≡◌ {A = ℕ} 0 1 = cc in omega arith
-no_empty l (Value n u) e = ⊎_elim yes no (cases (leb (u + n) (length l) && is_message (part u n l)))
+no_empty : (l : List ℕ) (r : Option Number) → cut l r ≡ Empty → ⊥
+no_empty l None e = let z : ◌≡◌ {A = ℕ} 0 1 = cc in omega arith
+no_empty l (Some number) e = ⊎_elim yes no (cases (leb (number.used + number.value) (length l) && is_message (part number.used number.value l)))
   where
-    yes : (leb (u + n) (length l) && is_message (part u n l)) ≡ true → ⊥
-    yes t = let f : Whole u (u + n) ≡ Empty = rw t at e in let z : ◌≡◌ {A = ℕ} 0 1 = cc in omega arith
+    yes : (leb (number.used + number.value) (length l) && is_message (part number.used number.value l)) ≡ true → ⊥
+    yes t = let f : Whole number.used (number.used + number.value) ≡ Empty = rw t at e in let z : ◌≡◌ {A = ℕ} 0 1 = cc in omega arith
 
-    no : (leb (u + n) (length l) && is_message (part u n l)) ≡ false → ⊥
+    no : (leb (number.used + number.value) (length l) && is_message (part number.used number.value l)) ≡ false → ⊥
     no t = let f : Bad ≡ Empty = rw t at e in let z : ◌≡◌ {A = ℕ} 0 1 = cc in omega arith
 
 -- nothing that is no record is read as one
@@ -90,12 +88,12 @@ found_broken (m ∷ ms) l at rest a e b =
 
 -- a verdict as a list of checks
 abbrev only : Verdict → List Check
-only Accepted = []
-only (Refused k p) = check false k p ∷ []
+only (Ok _) = []
+only (Err fault) = check false fault.cause fault.place ∷ []
 
 only_first : (v : Verdict) → first_fault (only v) ≡ v
-only_first Accepted = refl
-only_first (Refused k p) = refl
+only_first (Ok _) = refl
+only_first (Err fault) = refl
 
 -- ---- the check of a list
 module _ (l : List ℕ) (h : IsBytes l) where
@@ -123,16 +121,16 @@ module _ (l : List ℕ) (h : IsBytes l) where
       bytes = subst IsBytes (ap (drop (length (records_of ms))) e ∙ drop-append_seam (records_of ms) rest) (bytes_drop l (length (records_of ms)) h)
 
   list_sounds : (R : ℕ → Cause → ℕ → Type 0) → ((k : Cause) (p : ℕ) → ListCells l k p → R (turn_of k p) k p) → (v : Verdict) → list_fault l ≡ v → Sounds R (ranked (only v))
-  list_sounds R has Accepted e = tt
-  list_sounds R has (Refused k p) e = (λ t. let b = broken_fault k p e in has k p (subst (λ (x : Cause). ListCells l x p) (sym b.0) b.1), tt)
+  list_sounds R has (Ok _) e = tt
+  list_sounds R has (Err fault) e = (λ t. let b = broken_fault fault.cause fault.place e in has fault.cause fault.place (subst (λ (x : Cause). ListCells l x fault.place) (sym b.0) b.1), tt)
 
   abbrev last : Verdict → ℕ
-  last Accepted = 800
-  last (Refused k p) = suc (turn_of k p)
+  last (Ok _) = 800
+  last (Err fault) = suc (turn_of fault.cause fault.place)
 
   list_rises : (v : Verdict) → list_fault l ≡ v → Rises 800 (ranked (only v)) (last v)
-  list_rises Accepted e = omega arith
-  list_rises (Refused k p) e = let b = (broken_fault k p e).0 in let r : turn_of k p ≡ 800 + p = ap (λ (x : Cause). turn_of x p) b in (omega arith, omega arith)
+  list_rises (Ok _) e = omega arith
+  list_rises (Err fault) e = let b = (broken_fault fault.cause fault.place e).0 in let r : turn_of fault.cause fault.place ≡ 800 + fault.place = ap (λ (x : Cause). turn_of x fault.place) b in (omega arith, omega arith)
 
   list_complete : (k : Cause) (p : ℕ) → ListCells l k p → Fails (turn_of k p) k p (ranked (only (list_fault l)))
   list_complete k p (broken ms rest a e some never) = fails (list_fault l) (length (records_of ms)) (fault_broken ms rest a e some never)
@@ -158,7 +156,7 @@ module _ (l : List ℕ) (h : IsBytes l) where
   list_first k p = chain (found_as (Refused k p)) (listed_first list_lists k p)
 
   -- and nothing exactly where there is none
-  pub list_none : (list_fault l ≡ Accepted) ↔ None (Ranked (ListCells l))
+  pub list_none : (list_fault l ≡ Accepted) ↔ NoFault (Ranked (ListCells l))
   list_none = chain (found_as Accepted) (listed_none list_lists)
 
 -- ---- a fill
@@ -222,7 +220,7 @@ module _ (w : Writer) (l : List ℕ) (n : Grant) (size : ℕ) (h : IsBytes l) wh
       (chain (by_checks (Refused k p)) (listed_first fill_lists k p))
 
   -- and fills exactly where there is none
-  pub fill_none : ((filling w l n size).answer ≡ answer.Accepted (used_of (format_of w.format) n (tail_of w) l)) ↔ None (Ranked Of)
+  pub fill_none : ((filling w l n size).answer ≡ answer.Accepted (used_of (format_of w.format) n (tail_of w) l)) ↔ NoFault (Ranked Of)
   unfolding filling
   fill_none =
       chain (filled_as (fill_fault w l n size) (used_of (format_of w.format) n (tail_of w) l))

@@ -8,7 +8,6 @@ use Rattle.lists.proofs.Tests.{never_both, not_true_false}
 use Rattle.cause.specs.Causes.{cause_number}
 use Rattle.cause.specs.declared.Cause.{Cause}
 use Rattle.cause.specs.declared.Cause.TheVariants.{ContainerLength, HeaderGrantForm, BrokenRecord, TooLong, InvalidState}
-use Rattle.cause.specs.declared.Verdict.TheVariants.{Accepted, Refused}
 use Rattle.container.specs.Layout.{format_of}
 use Rattle.container.specs.declared.grant.Grant.{Grant}
 use Rattle.message.proofs.HeadRuleLaws.{message_exactly}
@@ -24,6 +23,7 @@ use Rattle.writer.proofs.FillCells.{ListCells, FillCells}
 use Rattle.cause.proofs.RankedLaws.{Ranked, chain}
 use Rattle.writer.proofs.FillFaults.{list_first, list_none, fill_first, fill_none}
 use Rattle.cause.proofs.NamedLaws.{Numbered, Same, first_named, none_named}
+use Rattle.cause.specs.Checks.{Accepted, Refused}
 
 -- two families, by cause and by number, with the same faults
 module _ (A : Cause → ℕ → Type 0) (F : ℕ → ℕ → Type 0) (to : (k : Cause) (p : ℕ) → A k p → F (cause_number k) p)

@@ -12,7 +12,6 @@ pub mod SaneLaws
 pub mod PlanLaws
 pub mod HoldLaws
 pub mod CursorCases
-pub mod LaidLaws
 pub mod StateCases
 pub mod AnswerLaws
 pub mod StartedHere

@@ -25,31 +25,31 @@ use Rattle.message.proofs.PlaceLaws.{placed_fits}
 use Rattle.record.specs.Number.{read_number}
 use Rattle.record.specs.Records.{cut, first_of, message_of}
 use Rattle.record.specs.declared.number.Number.{Number}
-use Rattle.record.specs.declared.number.Number.TheVariants.{Broken, Value}
 use Rattle.record.specs.declared.list.First.{First}
 use Rattle.record.specs.declared.list.First.TheVariants.{Empty, Bad, Whole}
 use Rattle.record.proofs.RecordLaws.{first_within}
 use Rattle.writer.specs.HoldingMirror.{group_next, legal_by, may_by, Sane, cursor_empty, cursor_on, cursor_used, cursor_start, cursor_taken, cursor_first, cursor_next, cursor_starting, cursor_at}
 use Rattle.writer.specs.declared.group.Group.{Group}
 use Rattle.writer.specs.declared.cursor.Cursor.{Cursor}
+use Rattle.std.specs.Prelude.{Option, Some, None}
 
 -- ---- a first record is a whole message
 
-cut_message : (l : List ℕ) (r : Number) (start end : ℕ) → cut l r ≡ Whole start end → is_message (message_of l start end) ≡ true
-cut_message l Broken start end q = let z : ◌≡◌ {A = ℕ} 0 1 = cc in absurd (omega arith)
-cut_message l (Value n u) start end q = ⊎_elim yes no (cases (leb (u + n) (length l) && is_message (part u n l)))
+cut_message : (l : List ℕ) (r : Option Number) (start end : ℕ) → cut l r ≡ Whole start end → is_message (message_of l start end) ≡ true
+cut_message l None start end q = let z : ◌≡◌ {A = ℕ} 0 1 = cc in absurd (omega arith)
+cut_message l (Some number) start end q = ⊎_elim yes no (cases (leb (number.used + number.value) (length l) && is_message (part number.used number.value l)))
   where
-    no : (leb (u + n) (length l) && is_message (part u n l)) ≡ false → is_message (message_of l start end) ≡ true
+    no : (leb (number.used + number.value) (length l) && is_message (part number.used number.value l)) ≡ false → is_message (message_of l start end) ≡ true
     no t = let f : Bad ≡ Whole start end = rw t at q in let z : ◌≡◌ {A = ℕ} 0 1 = cc in absurd (omega arith)
 
-    yes : (leb (u + n) (length l) && is_message (part u n l)) ≡ true → is_message (message_of l start end) ≡ true
+    yes : (leb (number.used + number.value) (length l) && is_message (part number.used number.value l)) ≡ true → is_message (message_of l start end) ≡ true
     yes t =
-        let f : Whole u (u + n) ≡ Whole start end = rw t at q in
-        let es : u ≡ start = cc in
-        let ee : u + n ≡ end = cc in
-        let d : end - start ≡ n = omega arith in
-        let m : message_of l start end ≡ part u n l = rw (d, ← es) in
-        rw m (and_right (leb (u + n) (length l)) (is_message (part u n l)) t)
+        let f : Whole number.used (number.used + number.value) ≡ Whole start end = rw t at q in
+        let es : number.used ≡ start = cc in
+        let ee : number.used + number.value ≡ end = cc in
+        let d : end - start ≡ number.value = omega arith in
+        let m : message_of l start end ≡ part number.used number.value l = rw (d, ← es) in
+        rw m (and_right (leb (number.used + number.value) (length l)) (is_message (part number.used number.value l)) t)
 
 pub first_message : (l : List ℕ) (start end : ℕ) → first_of l ≡ Whole start end → is_message (message_of l start end) ≡ true
 first_message [] start end q = let z : ◌≡◌ {A = ℕ} 0 1 = cc in absurd (omega arith)

@@ -1,10 +1,9 @@
 -- Filling a container (document 01, "The writer's one way" and "Causes and places"): states, answers and the lent container.
-use Rattle.std.specs.Prelude.{ℕ, ◌%◌, Bool, ◌&&◌, List, [], ◌∷◌, length, take, drop, eqb, ltb, leb}
+use Rattle.std.specs.Prelude.{ℕ, ◌%◌, Bool, ◌&&◌, List, [], ◌∷◌, length, take, drop, eqb, ltb, leb, Result, Ok, Err}
 use Rattle.lists.specs.Pick.{pick}
 use Rattle.lists.specs.Parts.{zeros, pad}
-use Rattle.cause.specs.Checks.{Check, check, first_fault, when_accepted, or_else}
-use Rattle.cause.specs.declared.Verdict.{Verdict}
-use Rattle.cause.specs.declared.Verdict.TheVariants.{Accepted, Refused}
+use Rattle.cause.specs.Checks.{Check, check, first_fault, when_accepted, given, or_else, Verdict, Accepted, Refused}
+use Rattle.cause.specs.declared.Fault.{Fault}
 use Rattle.cause.specs.declared.Cause.TheVariants.{ContainerLength, HeaderGrantForm, TooLong, InvalidState}
 use Rattle.container.specs.Layout.{format_of, container_size}
 use Rattle.container.specs.Grants.{plane_allowed}
@@ -15,7 +14,6 @@ use Rattle.writer.specs.declared.writer.Writer.{Writer}
 use Rattle.writer.specs.declared.writer.Answer.{Answer}
 use Rattle.writer.specs.declared.writer.Answer.TheVariants as answer
 use Rattle.writer.specs.declared.writer.Step.{Step}
-use Rattle.writer.specs.declared.writer.Created.{Created}
 
 -- the tail that a writer owes
 abbrev pub tail_of : Writer → List ℕ
@@ -29,9 +27,9 @@ writer_ok w = ltb w.format 2 && (leb w.len 100 && (eqb (w.len % 20) 0 && zeros (
 abbrev pub writer_with : ℕ → List ℕ → Writer
 writer_with f t = record { format = f; tail = pad 100 t; len = length t }
 
--- a writer's start: nothing owed; a format that is none is 19, beside a writer that every step refuses
-abbrev pub new_writer : ℕ → Created
-new_writer f = record { writer = writer_with f []; verdict = pick (ltb f 2) Accepted (Refused InvalidState 0) }
+-- a writer's start: nothing owed; a format that is none is 19
+abbrev pub new_writer : ℕ → Result Writer Fault
+new_writer f = given (pick (ltb f 2) Accepted (Refused InvalidState 0)) (writer_with f [])
 
 -- 19, 1, 18, 4: for a list of so many bytes and a container of so many
 unfoldable pub call_checks : Writer → ℕ → Grant → ℕ → List Check
@@ -48,8 +46,8 @@ fill_fault w l n size = or_else (first_fault (call_checks w (length l) n size)) 
 
 -- an accepted fill answers the bytes of the list used; a refusal its cause and place
 abbrev pub answer_of : Verdict → ℕ → Answer
-answer_of Accepted used = answer.Accepted used
-answer_of (Refused c p) used = answer.Refused c p
+answer_of (Ok _) used = answer.Accepted used
+answer_of (Err fault) used = answer.Refused fault.cause fault.place
 
 -- filling a container of so many bytes: answer and next writer
 unfoldable pub filling : Writer → List ℕ → Grant → ℕ → Step

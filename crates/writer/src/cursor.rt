@@ -26,14 +26,6 @@ pub struct Cursor {
     pub group: Group,
 }
 
-// The value of bit g.
-fn raise_bit(g: u8) -> u16
-    requires { g < 12 }
-    ensures { result ≡ 2 ^ g }
-{
-    1 << (g as u16)
-}
-
 impl Cursor {
     // At the start of a container, with a tail of so many bytes owed.
     fn begin(len: usize) -> Cursor
@@ -54,14 +46,9 @@ impl Cursor {
         requires { (self.group.miscs ≤ 2) × (self.group.responses ≤ 4) }
         ensures { result ≡ cursor_empty g self }
     {
-        let group = self.group;
         Cursor {
-            tail: self.tail,
-            from: self.from,
-            left: self.left,
-            at: self.at,
-            msgstart: self.msgstart,
-            group: group.add(g, false, 0, 0),
+            group: self.group.add(g, false, 0, 0),
+            ..self
         }
     }
 
@@ -72,8 +59,7 @@ impl Cursor {
         ensures cursor { result ≡ cursor_empty g self }
         ensures bytes { container.new ≡ put (start g) (pad ((format_of format).size g) []) container.old }
     {
-        let none = [0u8; 1];
-        fill_granule(container, format, g, &none[0..0]);
+        fill_granule(container, format, g, &[]);
         self.leave(g)
     }
 
@@ -83,14 +69,11 @@ impl Cursor {
         requires from_bound { (self.from ≤ 4300) × (20 ≤ self.left) }
         ensures { result ≡ cursor_on g self }
     {
-        let group = self.group;
         Cursor {
-            tail: self.tail,
             from: self.from + WIDE,
             left: self.left - WIDE,
-            at: self.at,
-            msgstart: self.msgstart,
-            group: group.add(g, true, 0, 0),
+            group: self.group.add(g, true, 0, 0),
+            ..self
         }
     }
 
@@ -100,14 +83,13 @@ impl Cursor {
         requires end_bound { (self.at + end ≤ 4096) × (g < 12) × (self.msgstart < 2 ^ g) }
         ensures { result ≡ cursor_used g self end msgtype }
     {
-        let group = self.group;
         Cursor {
-            tail: self.tail,
-            from: self.from,
-            left: self.left,
             at: self.at + end,
-            msgstart: self.msgstart + raise_bit(g),
-            group: group.add(g, true, count_miscs(msgtype), count_responses(msgtype)),
+            msgstart: self.msgstart + (1 << g),
+            group: self
+                .group
+                .add(g, true, count_miscs(msgtype), count_responses(msgtype)),
+            ..self
         }
     }
 
@@ -119,41 +101,35 @@ impl Cursor {
         requires g_bound { (g < 12) × (self.msgstart < 2 ^ g) }
         ensures { result ≡ cursor_taken width g self skip end msgtype }
     {
-        let from = self.at + (skip + width);
         let used = self.use_record(g, end, msgtype);
         if used.left > 0 {
             return used;
         }
-        let size = end - skip;
-        let mut left = 0;
-        if width < size {
-            left = size - width;
-        }
-        let group = used.group;
         Cursor {
             tail: false,
-            from: from,
-            left: left,
-            at: used.at,
-            msgstart: used.msgstart,
-            group: group,
+            from: self.at + (skip + width),
+            left: (end - skip).saturating_sub(width),
+            ..used
         }
     }
 
+    // What the bytes owed lie in.
+    pub(crate) fn source<'a>(self, tail: &'a [u8], list: &'a [u8]) -> &'a [u8]
+        ensures { result.now ≡ pick self.tail tail.now list.now }
+    {
+        if self.tail { tail } else { list }
+    }
+
     // What is owed goes on in granule g of 20 bytes.
+    #[tactic(auto, using(crate::proofs::CursorCases::owed_part))]
     fn go_on(self, format: u32, tail: &[u8], list: &[u8], g: u8, container: &mut [u8]) -> Cursor
         requires container_len { (length container.old ≡ 256) × (g < 12) × ((format_of format).size g ≡ 20) }
         requires sane { Sane tail.now list.now g self × (0 < self.left) }
         ensures cursor { result ≡ cursor_on g self }
         ensures bytes { container.new ≡ put (start g) (pad ((format_of format).size g) (take 20 (owed_of tail.now list.now self))) container.old }
     {
-        let from = self.from;
-        let end = from + WIDE;
-        if self.tail {
-            fill_granule(container, format, g, &tail[from..end]);
-            return self.advance(g);
-        }
-        fill_granule(container, format, g, &list[from..end]);
+        let source = self.source(tail, list);
+        fill_granule(container, format, g, &source[self.from..self.from + WIDE]);
         self.advance(g)
     }
 
@@ -162,11 +138,10 @@ impl Cursor {
         requires { (self.group.miscs ≤ 2) × (self.group.responses ≤ 4) }
         ensures { result ≡ may_by (format_of format) grant g self msgtype op }
     {
-        let group = self.group;
         if self.left > 0 {
-            return group.admits_beneath(format, grant, g, msgtype, op);
+            return self.group.admits_beneath(format, grant, g, msgtype, op);
         }
-        group.admits(format, grant, g, msgtype, op)
+        self.group.admits(format, grant, g, msgtype, op)
     }
 
     // The message from skip to end of what is left of the list starts in granule g if it may.
@@ -193,7 +168,7 @@ impl Cursor {
             return self.pass_over(format, g, container);
         }
         let width = measure_granule(format, g);
-        let stop = cut_end(from, self.at + end, width);
+        let stop = (from + width).min(self.at + end);
         fill_granule(container, format, g, &list[from..stop]);
         self.take_record(width, g, skip, end, msgtype)
     }
@@ -212,15 +187,14 @@ impl Cursor {
         ensures cursor { result ≡ cursor_first (format_of format) grant list.now g self (first_of (drop self.at list.now)) }
         ensures bytes { container.new ≡ put (start g) (pad ((format_of format).size g) (bytes_first (format_of format) grant list.now g self (first_of (drop self.at list.now)))) container.old }
     {
-        let at = self.at;
-        let first = read_record(&list[at..]);
-        if let First::Whole { start, end } = first {
+        if let First::Whole { start, end } = read_record(&list[self.at..]) {
             return self.start_message(format, grant, list, start, end, g, container);
         }
         self.pass_over(format, g, container)
     }
 
     // Granule g is filled.
+    #[tactic(auto, unfolding(crate::specs::HoldingMirror::cursor_next, crate::specs::HoldingMirror::bytes_next))]
     fn write_granule(
         self,
         format: u32,
@@ -235,27 +209,15 @@ impl Cursor {
         ensures cursor { result ≡ cursor_next (format_of format) grant tail.now list.now g self }
         ensures bytes { container.new ≡ put (start g) (pad ((format_of format).size g) (bytes_next (format_of format) grant tail.now list.now g self)) container.old }
     {
-        if self.left > 0 {
-            if measure_granule(format, g) == WIDE {
-                return self.go_on(format, tail, list, g, container);
-            }
+        if self.left > 0 && measure_granule(format, g) == WIDE {
+            return self.go_on(format, tail, list, g, container);
         }
         self.start_record(format, grant, list, g, container)
     }
 }
 
-// The end of what a granule of so many bytes takes of a message.
-fn cut_end(from: usize, end: usize, width: usize) -> usize
-    requires { (from ≤ end) × (end ≤ 4096) × (width ≤ 20) }
-    ensures { (from ≤ result) × (result ≤ end) × (result ≤ from + width) × (result ≡ pick (ltb (from + width) end) (from + width) end) }
-{
-    if from + width < end {
-        return from + width;
-    }
-    end
-}
-
 // Fills all granules of a container, upwards, over zeros.
+#[tactic(auto, using(crate::proofs::SaneLaws::sane_at), unfolding(crate::specs::HoldingMirror::cursor_at, crate::specs::HoldingMirror::laid_to))]
 pub(crate) fn fill_granules(
     format: u32,
     grant: Grant,
@@ -270,10 +232,8 @@ pub(crate) fn fill_granules(
 {
     clear(container);
     let mut cursor = Cursor::begin(tail.len());
-    let mut g: u8 = 0;
-    while g < GRANULES {
+    for g in 0..GRANULES {
         cursor = cursor.write_granule(format, grant, tail, list, g, container);
-        g += 1;
     }
     cursor
 }

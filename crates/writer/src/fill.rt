@@ -5,18 +5,18 @@ ghost use Rattle.container.specs.Layout.{format_of, start};
 ghost use Rattle.writer.specs.Laying.{header_bytes, set_all};
 
 use container::{Grant, locate_granule, locate_header, measure_granule};
-use slices::byte_at;
 
-// Copies src to the front of a part and writes zeros behind it, `size` bytes in all.
-fn copy_and_zero(part: &mut [u8], src: &[u8], size: usize)
-    requires { (length src.now ≤ size) × (size ≤ length part.old) }
-    ensures { part.new ≡ put 0 (pad size src.now) part.old }
+// The bytes of a protocol header.
+const HEADER: usize = 10;
+
+// Copies src to the front of a part and writes zeros behind it.
+fn copy_and_zero(part: &mut [u8], src: &[u8])
+    requires { length src.now ≤ length part.old }
+    ensures { part.new ≡ pad (length part.old) src.now }
 {
-    let mut i = 0;
-    while i < size {
-        part[i] = byte_at(src, i);
-        i += 1;
-    }
+    let (front, rest) = part.split_at_mut(src.len());
+    front.copy_from_slice(src);
+    rest.fill(0);
 }
 
 // Fills granule g with src and zeros behind it.
@@ -25,43 +25,32 @@ pub(crate) fn fill_granule(container: &mut [u8], format: u32, g: u8, src: &[u8])
     requires src_len_bound { length src.now ≤ (format_of format).size g }
     ensures { container.new ≡ put (start g) (pad ((format_of format).size g) src.now) container.old }
 {
-    let a = locate_granule(g);
-    let size = measure_granule(format, g);
-    copy_and_zero(&mut container[a..], src, size);
+    let from = locate_granule(g);
+    let end = from + measure_granule(format, g);
+    copy_and_zero(&mut container[from..end], src);
 }
 
-// Header byte Pi under a MsgStart and a grant.
-fn form_header(msgstart: u16, grant: Grant, i: u8) -> u8
+// The header bytes under a MsgStart and a grant.
+fn form_header(msgstart: u16, grant: Grant) -> [u8; HEADER]
     requires { (msgstart < 4096) × (grant.rp < 8) }
-    ensures { result ≡ get_or (header_bytes grant msgstart) i 0 }
+    ensures { result ≡ header_bytes grant msgstart }
 {
-    match i {
-        0 => (msgstart % 256) as u8,
-        1 => (msgstart / 256) as u8,
-        2 => {
-            if grant.shc {
-                return 1 + 2 * grant.rp;
-            }
-            2 * grant.rp
-        }
-        3 => grant.req,
-        4 => grant.rsp,
-        5 => grant.snp,
-        6 => grant.dat,
-        7..=255 => 0,
-    }
+    let [low, high] = msgstart.to_le_bytes();
+    let form = u8::from(grant.shc) + 2 * grant.rp;
+    [
+        low, high, form, grant.req, grant.rsp, grant.snp, grant.dat, 0, 0, 0,
+    ]
 }
 
 // Writes the header bytes, each at its place.
+#[tactic(auto, using(crate::proofs::HeaderLaws::set_all_more), unfolding(crate::specs::Laying::set_all))]
 pub(crate) fn write_header(container: &mut [u8], format: u32, msgstart: u16, grant: Grant)
     requires container_len { length container.old ≡ 256 }
     requires msgstart_bound { (msgstart < 4096) × (grant.rp < 8) }
     ensures { container.new ≡ set_all (format_of format).place 0 (header_bytes grant msgstart) container.old }
 {
-    let mut i: u8 = 0;
-    while i < 10 {
-        let at = locate_header(format, i);
-        container[at] = form_header(msgstart, grant, i);
-        i += 1;
+    let header = form_header(msgstart, grant);
+    for i in 0..HEADER {
+        container[locate_header(format, i as u8)] = header[i];
     }
 }

@@ -47,13 +47,9 @@ impl Group {
         requires { (self.miscs ≤ 1000) × (self.responses ≤ 1000) }
         ensures { result ≡ (self.full && (leb (self.miscs + miscs_by msgtype) 1 && leb (self.responses + responses_by msgtype) 4)) }
     {
-        if !self.full {
-            return false;
-        }
-        if 1 < self.miscs + count_miscs(msgtype) {
-            return false;
-        }
-        self.responses + count_responses(msgtype) <= 4
+        self.full
+            && self.miscs + count_miscs(msgtype) <= 1
+            && self.responses + count_responses(msgtype) <= 4
     }
 
     // Whether a message of this type and op may start at granule g, beside this header grant.
@@ -61,15 +57,9 @@ impl Group {
         requires { (self.miscs ≤ 1000) × (self.responses ≤ 1000) }
         ensures { result ≡ legal_by (format_of format) grant g self msgtype op }
     {
-        if !may_start(format, g, msgtype, op) {
-            return false;
-        }
-        if is_misc(msgtype, op, ACTIVATION) {
-            if has_counts(grant) {
-                return false;
-            }
-        }
-        self.takes(msgtype)
+        may_start(format, g, msgtype, op)
+            && !(is_misc(msgtype, op, ACTIVATION) && has_counts(grant))
+            && self.takes(msgtype)
     }
 
     // Whether a message of this type and op may lie in granule g beneath what is owed: an Activation never does.

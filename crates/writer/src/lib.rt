@@ -6,4 +6,4 @@ mod fill;
 mod group;
 mod writer;
 
-pub use writer::{Answer, Created, Step, Writer};
+pub use writer::{Answer, Step, Writer};

@@ -22,9 +22,6 @@ offset_bounds-capacities-p c = omega arith
 pub bounds-capacities-p : goal.bounds-capacities-p
 bounds-capacities-p c = omega arith
 
-pub overflow_add-p : goal.overflow_add-p
-overflow_add-p c = omega arith
-
 pub loop-p-smaller : goal.loop-p-smaller
 loop-p-smaller c = omega arith
 
@@ -32,7 +29,7 @@ pub loop-p-preserved : goal.loop-p-preserved
 loop-p-preserved c = let p = c.loop-p.p in
     let f : ℕ → ℕ = λ q. get_or c.args.numbers.now (c.args.at + 2 + q) 0 in
     let long = length_row f 14 0 in
-    let value : c.number_at.result ≡ get_or (row f 14 0) p 0 = c.number_at.ensures ∙ sym (row_at f p (omega arith)) in
+    let value : c.item_or.result ≡ get_or (row f 14 0) p 0 = c.item_or.ensures ∙ sym (row_at f p (omega arith)) in
     (omega arith, rw (c.loop-p.invariant.1, value) (grown_more (row f 14 0) (replicate 14 0) p 0 (omega arith) (omega arith)))
 
 pub overflow_add-at-2 : goal.overflow_add-at-2
@@ -41,4 +38,4 @@ overflow_add-at-2 c = omega arith
 pub returns : goal.returns
 returns c = let f : ℕ → ℕ = λ q. get_or c.args.numbers.now (c.args.at + 2 + q) 0 in
     let all = c.loop-p.invariant.1 ∙ grown_all (row f 14 0) (replicate 14 0) c.loop-p.p (length_row f 14 0) (omega arith) in
-    rw (c.number_at-2.ensures, c.number_at-3.ensures, all)
+    rw (c.item_or-2.ensures, c.item_or-3.ensures, all)

@@ -7,11 +7,9 @@ use borrow.Author.Rules.{rules}
 use Rattle.lists.proofs.PartLaws.{rest_is}
 use Rattle.frame.specs.Framing.{framing}
 use Rattle.frame.specs.declared.Framed.TheVariants.{Whole}
-use Rattle.ledger.specs.Run.{halted}
 use Rattle.ledger.proofs.RunLaws.{Running, running_none, running_full, running_ends, entry_within, entry_direction, running_refused, running_more, framed_here, entry_is}
 use Rattle.audit_probe.specs.Audit.{max_run}
 use Rattle.audit_probe.proofs.AuditLaws.{run_valid}
-use Rattle.cause.specs.declared.Verdict.{Verdict}
 use Rattle.audit_probe.proofs.run_each.Goals.{In-Whole}
 use Rattle.audit_probe.proofs.run_each.Goals as goal
 
@@ -30,7 +28,7 @@ abbrev width : In-Whole → ℕ
 width c = c.in-Whole.start
 
 whole : (c : In-Whole) → framing (drop (here c) (bytes c)) ≡ Whole c.in-Whole.number (side c) (width c)
-whole c = framed_here (bytes c) (here c) c.frame_entry-framed.ensures c.in-Whole.is
+whole c = framed_here (bytes c) (here c) c.frame_entry.ensures c.in-Whole.is
 
 room : (c : In-Whole) → (width c ≤ 5) × (here c + width c + 256 ≤ length (bytes c))
 room c = entry_within _ _ _ _ _ _ c.loop-count.invariant c.loop-count-test.true _ _ _ (whole c)
@@ -49,7 +47,7 @@ returns-in_default c = let l = c.args.entries.now in
     c.stop_run.ensures
     ∙ running_ends _ _ _ _ _ _ c.loop-count.invariant
     (λ v d u e.
-    let q = c.frame_entry-framed.ensures ∙ ap framing (rest_is l c.loop-count.at) ∙ e in
+    let q = c.frame_entry.ensures ∙ ap framing (rest_is l c.loop-count.at) ∙ e in
     c.in_default.not-Whole v d u q)
     ∙ run_valid c.args.first l c.requires
 
@@ -65,13 +63,12 @@ overflow_cast-direction c = let d = either (goal.at.overflow_cast-direction c).I
 pub slice_bounds-audit-end : goal.slice_bounds-audit-end
 slice_bounds-audit-end c = (room (goal.at.slice_bounds-audit-end c).In-Whole).1
 
-pub returns-in-Refused : goal.returns-in-Refused
-returns-in-Refused c = let told = c.in-Refused.is in
-    c.stop_run-in-Refused.ensures
-    ∙ ap (λ (a : Verdict). halted c.loop-count.ledger c.loop-count.count c.loop-count.at a) told
-    ∙ running_refused _ _ _ _ _ _ c.loop-count.invariant c.loop-count-test.true _ _ _ (whole (goal.at.returns-in-Refused c).In-Whole) c.audit-step.result
-    (entry_is c.loop-count.ledger (bytes (goal.at.returns-in-Refused c).In-Whole) (here (goal.at.returns-in-Refused c).In-Whole) (side (goal.at.returns-in-Refused c).In-Whole) (width (goal.at.returns-in-Refused c).In-Whole) c.audit-step.ensures) _ _ told
-    ∙ run_valid c.args.first (bytes (goal.at.returns-in-Refused c).In-Whole) c.requires
+pub returns-in-Err : goal.returns-in-Err
+returns-in-Err c = let told = c.in-Err.is in
+    c.stop_run-in-Err.ensures
+    ∙ running_refused _ _ _ _ _ _ c.loop-count.invariant c.loop-count-test.true _ _ _ (whole (goal.at.returns-in-Err c).In-Whole) c.audit-step.result
+    (entry_is c.loop-count.ledger (bytes (goal.at.returns-in-Err c).In-Whole) (here (goal.at.returns-in-Err c).In-Whole) (side (goal.at.returns-in-Err c).In-Whole) (width (goal.at.returns-in-Err c).In-Whole) c.audit-step.ensures) _ _ told
+    ∙ run_valid c.args.first (bytes (goal.at.returns-in-Err c).In-Whole) c.requires
 
 pub loop-count-smaller : goal.loop-count-smaller
 loop-count-smaller c = omega arith

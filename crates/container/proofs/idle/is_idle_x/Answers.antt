@@ -1,16 +1,10 @@
-use mathlib.Core.Path.{sym, ap, ◌∙◌}
-use Rattle.lists.specs.Parts.{zeros}
-use Rattle.lists.proofs.PartLaws.{rest_is}
+use Rattle.std.proofs.Common.{rules, tests, arith}
+use Rattle.std.proofs.lemmas.Bool.Decides.{nat_tests}
 use Rattle.container.proofs.IdleLaws.{idle_x}
 use Rattle.container.proofs.idle.is_idle_x.Goals as goal
 
-pub returns-then-not-is_zero : goal.returns-then-not-is_zero
-returns-then-not-is_zero c = rw (idle_x c.args.container.now c.requires, sym c.is_zero.ensures ∙ c.if-not-is_zero.true)
+pub returns-then-is_zero-2 : goal.returns-then-is_zero-2
+returns-then-is_zero-2 c = rw (idle_x c.args.container.now c.requires) (search (rules, tests))
 
-pub returns-then-not-is_zero-2 : goal.returns-then-not-is_zero-2
-returns-then-not-is_zero-2 c = rw (idle_x c.args.container.now c.requires, sym c.is_zero.ensures ∙ c.if-not-is_zero.false, sym c.is_zero-2.ensures ∙ c.if-not-is_zero-2.true)
-
-pub returns : goal.returns
-returns c = let whole = c.args.container.now in
-    rw (idle_x whole c.requires, sym c.is_zero.ensures ∙ c.if-not-is_zero.false, sym c.is_zero-2.ensures ∙ c.if-not-is_zero-2.false)
-    (c.is_zero-3.ensures ∙ ap zeros (rest_is whole 126))
+pub returns-else-is_zero-2 : goal.returns-else-is_zero-2
+returns-else-is_zero-2 c = rw (idle_x c.args.container.now c.requires) (grind (arith, nat_tests))

@@ -8,6 +8,3 @@ returns-then-g-gt15 c = let g = c.args.g in
     let wide : 2 ^ 16 ≤ 2 ^ g = pow-le-pow_right {n = 2} (omega arith) {i = 16} {j = g} (omega arith) in
     let below : c.args.msgstart < 2 ^ g = omega arith in
     rw (div-eq_of_lt below)
-
-pub overflow_cast-result-2 : goal.overflow_cast-result-2
-overflow_cast-result-2 c = omega arith

@@ -2,6 +2,7 @@ use mathlib.Core.Path.{refl, sym, ◌∙◌}
 use mathlib.Core.List.{[]}
 use native.Mathlib.Omega.{arith}
 use lib.ListN.{get_or}
+use Rattle.std.specs.Prelude.{Err}
 use Rattle.pools.proofs.PoolLoops.{checks_stop, checks_go_on, checks_end}
 use Rattle.ledger.proofs.CountLaws.{short_checks}
 use mathlib.Core.Path.{ap}
@@ -24,10 +25,7 @@ pub bounds-begun-p : goal.bounds-begun-p
 bounds-begun-p c = omega arith
 
 pub returns-then-not-cover : goal.returns-then-not-cover
-returns-then-not-cover c = checks_stop (short_checks (get_or c.args.held c.args.direction []) c.args.begun) c.loop-p.p c.loop-p-test.true c.loop-p.invariant.1 c.cover.ensures (ap not c.if-not-cover.true)
-
-pub overflow_add-p : goal.overflow_add-p
-overflow_add-p c = omega arith
+returns-then-not-cover c = ap Err c.at.ensures ∙ checks_stop (short_checks (get_or c.args.held c.args.direction []) c.args.begun) c.loop-p.p c.loop-p-test.true c.loop-p.invariant.1 c.cover.ensures (ap not c.if-not-cover.true)
 
 pub loop-p-smaller : goal.loop-p-smaller
 loop-p-smaller c = omega arith

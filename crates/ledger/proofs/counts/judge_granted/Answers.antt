@@ -2,6 +2,7 @@ use mathlib.Core.Path.{refl, sym, ◌∙◌}
 use mathlib.Core.List.{[]}
 use native.Mathlib.Omega.{arith}
 use lib.ListN.{get_or}
+use Rattle.std.specs.Prelude.{Err}
 use Rattle.pools.proofs.PoolLoops.{checks_stop, checks_go_on, checks_end}
 use Rattle.ledger.proofs.CountLaws.{over_checks}
 use mathlib.Core.Path.{ap}
@@ -36,10 +37,7 @@ pub bounds-capacities-p : goal.bounds-capacities-p
 bounds-capacities-p c = omega arith
 
 pub returns-then-not-fit_together : goal.returns-then-not-fit_together
-returns-then-not-fit_together c = checks_stop (over_checks (get_or c.args.held c.args.direction []) (get_or c.args.opened c.args.direction []) c.args.granted c.args.capacities) c.loop-p.p c.loop-p-test.true c.loop-p.invariant.1 c.fit_together.ensures (ap not c.if-not-fit_together.true)
-
-pub overflow_add-p : goal.overflow_add-p
-overflow_add-p c = omega arith
+returns-then-not-fit_together c = ap Err c.at.ensures ∙ checks_stop (over_checks (get_or c.args.held c.args.direction []) (get_or c.args.opened c.args.direction []) c.args.granted c.args.capacities) c.loop-p.p c.loop-p-test.true c.loop-p.invariant.1 c.fit_together.ensures (ap not c.if-not-fit_together.true)
 
 pub loop-p-smaller : goal.loop-p-smaller
 loop-p-smaller c = omega arith

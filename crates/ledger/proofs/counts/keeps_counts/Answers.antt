@@ -41,9 +41,6 @@ bounds-capacities-p c = omega arith
 pub returns-then-not-fit_together : goal.returns-then-not-fit_together
 returns-then-not-fit_together c = tests_stop (row_tests (get_or c.args.held c.args.direction []) (get_or c.args.opened c.args.direction []) c.args.paid c.args.capacities) c.loop-p.p c.loop-p-test.true c.loop-p.invariant.1 (paid_fits (get_or c.args.held c.args.direction []) (get_or c.args.opened c.args.direction []) c.args.paid c.args.capacities c.loop-p.p c.equal.ensures (ap not c.if-not-equal.false) c.fit_together.ensures) (ap not c.if-not-fit_together.true)
 
-pub overflow_add-p : goal.overflow_add-p
-overflow_add-p c = omega arith
-
 pub loop-p-smaller : goal.loop-p-smaller
 loop-p-smaller c = omega arith
 

@@ -40,9 +40,6 @@ offset_bounds-next-other c = omega arith
 pub offset_bounds-next-p-in-loop-p : goal.offset_bounds-next-p-in-loop-p
 offset_bounds-next-p-in-loop-p c = omega arith
 
-pub overflow_add-p : goal.overflow_add-p
-overflow_add-p c = omega arith
-
 pub loop-p-smaller : goal.loop-p-smaller
 loop-p-smaller c = omega arith
 

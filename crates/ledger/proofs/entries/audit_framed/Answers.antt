@@ -12,10 +12,10 @@ use Rattle.ledger.specs.Run.{halted}
 use Rattle.ledger.specs.declared.ledger.Ledger.{Ledger}
 use Rattle.ledger.specs.declared.ledger.Step.{Step}
 use Rattle.ledger.proofs.RunLaws.{step_at, Running, running_none, running_full, running_ends, entry_within, entry_direction, running_refused, running_back, running_more, framed_here, entry_is, entry_long}
-use Rattle.cause.specs.declared.Verdict.{Verdict}
-use Rattle.cause.specs.declared.Verdict.TheVariants.{Accepted, Refused}
 use Rattle.ledger.proofs.entries.audit_framed.Goals.{In-Whole, then-not-is_entry_idle+in_default-answer, else-not-is_entry_idle}
 use Rattle.ledger.proofs.entries.audit_framed.Goals as goal
+use Rattle.std.specs.Prelude.{Err}
+use Rattle.cause.specs.Checks.{Accepted}
 
 -- ---- a whole entry is at hand
 
@@ -32,7 +32,7 @@ abbrev width : In-Whole → ℕ
 width c = c.in-Whole.start
 
 whole : (c : In-Whole) → framing (drop (here c) (bytes c)) ≡ Whole c.in-Whole.number (side c) (width c)
-whole c = framed_here (bytes c) (here c) c.frame_entry-framed.ensures c.in-Whole.is
+whole c = framed_here (bytes c) (here c) c.frame_entry.ensures c.in-Whole.is
 
 room : (c : In-Whole) → (width c ≤ 5) × (here c + width c + 256 ≤ length (bytes c))
 room c = entry_within _ _ _ _ _ _ c.loop-count.invariant c.loop-count-test.true _ _ _ (whole c)
@@ -60,7 +60,7 @@ returns-in_default c = let l = c.args.bytes.now in
     c.stop_run.ensures
     ∙ running_ends _ _ _ _ _ _ c.loop-count.invariant
     (λ v d u e.
-    let q = c.frame_entry-framed.ensures ∙ ap framing (rest_is l c.loop-count.at) ∙ e in
+    let q = c.frame_entry.ensures ∙ ap framing (rest_is l c.loop-count.at) ∙ e in
     c.in_default.not-Whole v d u q)
 
 pub overflow_add-begin : goal.overflow_add-begin
@@ -81,15 +81,14 @@ slice_bounds-audit_contents-end c = (room (goal.at.slice_bounds-audit_contents-e
 pub audit_contents-step-requires : goal.audit_contents-step-requires
 audit_contents-step-requires c = (either (goal.at.audit_contents-step-requires c).In-Whole, c.loop-count.invariant.kept, entry_long (bytes (goal.at.audit_contents-step-requires c).In-Whole) (here (goal.at.audit_contents-step-requires c).In-Whole + width (goal.at.audit_contents-step-requires c).In-Whole) (room (goal.at.audit_contents-step-requires c).In-Whole).1)
 
-pub returns-in-Refused : goal.returns-in-Refused
-returns-in-Refused c = let told = c.in-Refused.is in
+pub returns-in-Err : goal.returns-in-Err
+returns-in-Err c = let told = c.in-Err.is in
     let more = c.loop-count-test.true in
-    let step = entry_is c.loop-count.state (bytes (goal.at.returns-in-Refused c).In-Whole) (here (goal.at.returns-in-Refused c).In-Whole) (side (goal.at.returns-in-Refused c).In-Whole) (width (goal.at.returns-in-Refused c).In-Whole) c.audit_contents-step.ensures in
-    c.stop_run-in-Refused.ensures
-    ∙ ap (λ (a : Verdict). halted c.audit_contents-step.result.ledger c.loop-count.count c.loop-count.at a) told
-    ∙ ap (λ (s : Ledger). halted s c.loop-count.count c.loop-count.at (Refused c.in-Refused.field-0 c.in-Refused.field-1))
-    (running_back _ _ _ _ _ _ c.loop-count.invariant more _ _ _ (whole (goal.at.returns-in-Refused c).In-Whole) c.audit_contents-step.result step _ _ told)
-    ∙ running_refused _ _ _ _ _ _ c.loop-count.invariant more _ _ _ (whole (goal.at.returns-in-Refused c).In-Whole) c.audit_contents-step.result step _ _ told
+    let step = entry_is c.loop-count.state (bytes (goal.at.returns-in-Err c).In-Whole) (here (goal.at.returns-in-Err c).In-Whole) (side (goal.at.returns-in-Err c).In-Whole) (width (goal.at.returns-in-Err c).In-Whole) c.audit_contents-step.ensures in
+    c.stop_run-in-Err.ensures
+    ∙ ap (λ (s : Ledger). halted s c.loop-count.count c.loop-count.at (Err c.in-Err.fault))
+    (running_back _ _ _ _ _ _ c.loop-count.invariant more _ _ _ (whole (goal.at.returns-in-Err c).In-Whole) c.audit_contents-step.result step _ _ told)
+    ∙ running_refused _ _ _ _ _ _ c.loop-count.invariant more _ _ _ (whole (goal.at.returns-in-Err c).In-Whole) c.audit_contents-step.result step _ _ told
 
 pub loop-count-smaller : goal.loop-count-smaller
 loop-count-smaller c = omega arith

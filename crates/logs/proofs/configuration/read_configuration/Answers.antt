@@ -1,4 +1,5 @@
-use mathlib.Core.Path.{sym, ap, ◌∙◌}
+use mathlib.Core.Path.{refl, sym, ap, ◌∙◌}
+use Rattle.std.specs.Prelude.{None, Err}
 use native.Mathlib.Omega.{arith}
 use borrow.Author.Tests.{not-true, not-false}
 use Rattle.logs.specs.Log.{configuration_of}
@@ -12,23 +13,25 @@ loop-i-init c = configuration_begins _
 pub slice_bounds-read_number-count : goal.slice_bounds-read_number-count
 slice_bounds-read_number-count c = c.loop-i.invariant.within
 
-pub returns-in-Broken : goal.returns-in-Broken
-returns-in-Broken c = c.refuse_numbers.ensures
-    ∙ ap configuration_of (sym (loop_broken _ _ _ _ c.loop-i.invariant c.loop-i-test.true c.read_number-number.result c.read_number-number.ensures c.in-Broken.is))
+pub returns-in_default : goal.returns-in_default
+returns-in_default c =
+    ap Err c.at.ensures
+    ∙ ap configuration_of (sym (loop_broken _ _ _ _ c.loop-i.invariant c.loop-i-test.true None c.in_default.ensures refl))
 
 pub returns-then-not-suits_place : goal.returns-then-not-suits_place
-returns-then-not-suits_place c = c.refuse_numbers-then-not-suits_place.ensures
-    ∙ ap configuration_of (sym (loop_wrong _ _ _ _ c.loop-i.invariant c.loop-i-test.true c.read_number-number.result c.read_number-number.ensures _ _ c.in-Value.is
+returns-then-not-suits_place c =
+    ap Err c.at-then-not-suits_place.ensures
+    ∙ ap configuration_of (sym (loop_wrong _ _ _ _ c.loop-i.invariant c.loop-i-test.true c.read_number.result c.read_number.ensures _ _ c.in-Some.is
     (sym c.suits_place.ensures ∙ not-true c.suits_place.result (ap not c.if-not-suits_place.true))))
 
 pub overflow_add-at : goal.overflow_add-at
-overflow_add-at c = omega (arith, (loop_takes _ _ _ _ c.loop-i.invariant c.loop-i-test.true c.read_number-number.result c.read_number-number.ensures _ _ c.in-Value.is).1)
+overflow_add-at c = omega (arith, (loop_takes _ _ _ _ c.loop-i.invariant c.loop-i-test.true c.read_number.result c.read_number.ensures _ _ c.in-Some.is).1)
 
 pub loop-i-smaller : goal.loop-i-smaller
 loop-i-smaller c = omega arith
 
 pub loop-i-preserved : goal.loop-i-preserved
-loop-i-preserved c = loop_on _ _ _ _ c.loop-i.invariant c.loop-i-test.true c.read_number-number.result c.read_number-number.ensures _ _ c.in-Value.is
+loop-i-preserved c = loop_on _ _ _ _ c.loop-i.invariant c.loop-i-test.true c.read_number.result c.read_number.ensures _ _ c.in-Some.is
     (sym c.suits_place.ensures ∙ not-false c.suits_place.result (ap not c.if-not-suits_place.false))
 
 pub returns : goal.returns

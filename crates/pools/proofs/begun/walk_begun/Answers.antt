@@ -1,26 +1,16 @@
-use native.Mathlib.Omega.{arith}
-use Rattle.pools.proofs.PassLaws.{walk_fits, walk_stops, walk_on, walk_ends}
-use Rattle.pools.proofs.BegunLaws.{begun_walks, begun_starts, paid_most}
+use mathlib.Core.Path.{refl}
+use Rattle.std.proofs.lemmas.Result.{err_from_is_err_and}
+use Rattle.pools.proofs.PassLaws.{walk_stops, walk_on, walk_ends}
+use Rattle.pools.proofs.BegunLaws.{begun_walks, paid_most}
 use Rattle.pools.proofs.begun.walk_begun.Goals as goal
 
-pub loop-g-init : goal.loop-g-init
-loop-g-init c = begun_starts _ _ _
-
-pub charge_granule-verdict-requires : goal.charge_granule-verdict-requires
-charge_granule-verdict-requires c = record { container_len = (c.requires, c.loop-g-test.true); counts_len = walk_fits (begun_walks _ _ _) c.loop-g.invariant c.loop-g-test.true }
-
-pub returns-in-Refused : goal.returns-in-Refused
-returns-in-Refused c = walk_stops (begun_walks _ _ _) c.loop-g.invariant c.loop-g-test.true c.charge_granule-verdict.ensures.verdict c.in-Refused.is _
-
-pub overflow_add-g : goal.overflow_add-g
-overflow_add-g c = omega arith
-
-pub loop-g-smaller : goal.loop-g-smaller
-loop-g-smaller c = omega arith
+pub returns-in_err-charge_granule : goal.returns-in_err-charge_granule
+returns-in_err-charge_granule c = let p = err_from_is_err_and c.from_residual.result c.from_residual.ensures.1 in
+    rw (p.1, p.2) (walk_stops (begun_walks _ _ _) c.loop-g.invariant c.loop-g-test.true c.in_err-charge_granule.ensures.verdict)
 
 pub loop-g-preserved : goal.loop-g-preserved
-loop-g-preserved c = walk_on (begun_walks _ _ _) c.loop-g.invariant c.loop-g-test.true c.charge_granule-verdict.ensures.verdict c.in-Accepted.is c.charge_granule-verdict.ensures.counts
-    (paid_most c.args.container.now c.args.msgstart (λ i. (c.shared_slice_known-1.given i).fits) c.loop-g.g)
+loop-g-preserved c = walk_on (begun_walks _ _ _) c.loop-g.invariant c.loop-g-test.true c.in_ok-charge_granule.ensures.verdict (c.in_ok-charge_granule.ensures.counts refl)
+    (paid_most c.args.container.now c.args.msgstart (λ i. (c.type_inv.container i).fits) c.loop-g.g)
 
 pub returns : goal.returns
 returns c = walk_ends (begun_walks _ _ _) c.loop-g.invariant c.loop-g-test.false

@@ -1,6 +1,6 @@
 use native.Mathlib.Omega.{arith}
 use Rattle.pools.proofs.TallyLaws.{Counts}
-use Rattle.pools.proofs.GrantedLaws.{Bytes, add_req, add_rsp, add_snp, add_dat, add_all}
+use Rattle.pools.proofs.GrantedLaws.{Bytes, add_rsp, add_snp, add_dat, add_all}
 use Rattle.pools.proofs.granted.add_grant.Goals.{Start}
 use Rattle.pools.proofs.granted.add_grant.Goals as goal
 
@@ -9,9 +9,6 @@ counts s = record { long = s.requires.counts_len.0; most = s.requires.counts_len
 
 bytes : (s : Start) → Bytes s.args.grant
 bytes s = record { req = omega arith; rsp = omega arith; snp = omega arith; dat = omega arith }
-
-pub add_count-requires : goal.add_count-requires
-add_count-requires c = let both = add_req c.args.grant c.args.counts.now (counts (goal.at.add_count-requires c).Start) (bytes (goal.at.add_count-requires c).Start) c.requires.rp_bound.0 c.choose_req.ensures in record { counts_len = both.0; amount_bound = both.1 }
 
 pub add_count-requires-2 : goal.add_count-requires-2
 add_count-requires-2 c = let both = add_rsp c.args.grant c.args.counts.now (counts (goal.at.add_count-requires-2 c).Start) (bytes (goal.at.add_count-requires-2 c).Start) c.requires.rp_bound.0 c.choose_req.ensures c.add_count.ensures in record { counts_len = both.0; amount_bound = both.1 }

@@ -1,14 +1,11 @@
 use native.Mathlib.Omega.{arith}
 use Rattle.pools.proofs.TallyLaws.{Counts}
-use Rattle.pools.proofs.TypeLaws.{add_first, add_push, add_both}
+use Rattle.pools.proofs.TypeLaws.{add_push, add_both}
 use Rattle.pools.proofs.tally.add_charges.Goals.{Start}
 use Rattle.pools.proofs.tally.add_charges.Goals as goal
 
 counts : (s : Start) → Counts 65535 s.args.counts.now
 counts s = record { long = s.requires.0; most = s.requires.1 }
-
-pub add_count-requires : goal.add_count-requires
-add_count-requires one = let both = add_first one.args.byte0 one.args.byte1 (omega arith) one.args.counts.now (counts (goal.at.add_count-requires one).Start) one.choose_pool.ensures one.count_credits.ensures in record { counts_len = both.0; amount_bound = both.1 }
 
 pub add_count-requires-2 : goal.add_count-requires-2
 add_count-requires-2 two = let both = add_push two.args.byte0 two.args.byte1 (omega arith) two.args.counts.now (counts (goal.at.add_count-requires-2 two).Start) two.choose_pool.ensures two.count_credits.ensures two.add_count.ensures two.choose_push.ensures two.count_push.ensures in record { counts_len = both.0; amount_bound = both.1 }

@@ -4,7 +4,7 @@ use native.Mathlib.Omega.{arith}
 use Rattle.message.specs.Heads.{class_of}
 use Rattle.message.specs.Charges.{charges_by}
 use Rattle.message.specs.declared.charge.Charges.{Charges}
-use Rattle.pools.proofs.TallyLaws.{AllChargeable, all_chargeable, pay_none, pay_fits, pay_one, pay_first, pay_second, pay_two}
+use Rattle.pools.proofs.TallyLaws.{AllChargeable, all_chargeable, pay_none, pay_second, pay_two}
 use Rattle.pools.proofs.tally.add_payment.Goals.{Start}
 use Rattle.pools.proofs.tally.add_payment.Goals as goal
 
@@ -16,20 +16,11 @@ charged s = charges_by (s.args.byte0 % 16) s.args.byte0 s.args.byte1
 able : (s : Start) → AllChargeable (charged s)
 able s = all_chargeable (s.args.byte0 % 16) s.args.byte0 s.args.byte1 (omega arith) (class_of (s.args.byte0 % 16))
 
-pub add_count-requires : goal.add_count-requires
-add_count-requires c = let both = pay_fits (charged (goal.at.add_count-requires c).Start) c.args.counts.now c.requires.0 c.requires.1 _ (sym c.charge_message-charges.ensures ∙ c.in-One.is) (able (goal.at.add_count-requires c).Start) in record { counts_len = both.0; amount_bound = both.1 }
-
-pub add_count-requires-in-Two : goal.add_count-requires-in-Two
-add_count-requires-in-Two c = let both = pay_first (charged (goal.at.add_count-requires-in-Two c).Start) c.args.counts.now c.requires.0 c.requires.1 _ _ (sym c.charge_message-charges.ensures ∙ c.in-Two.is) (able (goal.at.add_count-requires-in-Two c).Start) in record { counts_len = both.0; amount_bound = both.1 }
-
 pub add_count-requires-in-Two-2 : goal.add_count-requires-in-Two-2
 add_count-requires-in-Two-2 c = let both = pay_second (charged (goal.at.add_count-requires-in-Two-2 c).Start) c.args.counts.now c.requires.0 c.requires.1 _ _ (sym c.charge_message-charges.ensures ∙ c.in-Two.is) _ c.add_count-in-Two.ensures (able (goal.at.add_count-requires-in-Two-2 c).Start) in record { counts_len = both.0; amount_bound = both.1 }
 
 pub returns-in-Free : goal.returns-in-Free
 returns-in-Free c = pay_none (charged (goal.at.returns-in-Free c).Start) c.args.counts.now c.requires.0 c.requires.1 (sym c.charge_message-charges.ensures ∙ c.in-Free.is)
-
-pub returns-in-One : goal.returns-in-One
-returns-in-One c = pay_one (charged (goal.at.returns-in-One c).Start) c.args.counts.now c.requires.0 c.requires.1 _ (sym c.charge_message-charges.ensures ∙ c.in-One.is) _ c.add_count.ensures
 
 pub returns-in-Two : goal.returns-in-Two
 returns-in-Two c = pay_two (charged (goal.at.returns-in-Two c).Start) c.args.counts.now c.requires.0 c.requires.1 _ _ (sym c.charge_message-charges.ensures ∙ c.in-Two.is) _ c.add_count-in-Two.ensures _ c.add_count-in-Two-2.ensures

@@ -9,9 +9,6 @@ returns-then-start c = rw (c.if-on.true, c.if-start.true) (twice _ _ _)
 pub returns-then-on : goal.returns-then-on
 returns-then-on c = rw (c.if-on.true, c.if-start.false) (on_fine _ _ _ (omega (arith, c.requires.g_value c.if-on.true)))
 
-pub returns-then-start-2 : goal.returns-then-start-2
-returns-then-start-2 c = rw (c.if-on.false, c.if-start-2.true) c.judge_start.ensures
-
 pub returns-then-is_zero : goal.returns-then-is_zero
 returns-then-is_zero c = rw (c.if-on.false, c.if-start-2.false) (empty_fine _ _ _ (sym c.is_zero.ensures ∙ c.if-is_zero.true))
 

@@ -1,4 +1,3 @@
-use mathlib.Core.Path.{◌≡◌}
 use Prim.Native.Nat.{◌≤◌, ◌-◌}
 use mathlib.Core.Path.{◌≡◌}
 use Rattle.cause.specs.Checks.{first_fault}
@@ -7,6 +6,3 @@ use Rattle.reader.proofs.group.judge_groups.Given as goal
 
 abbrev pub invariant-loop-q : goal.invariant-loop-q
 invariant-loop-q l = (l.q ≤ 4) × (first_fault (mark_checks 4 0 l.marks) ≡ first_fault (mark_checks (4 - l.q) l.q l.marks))
-
-abbrev pub decreases-loop-q : goal.decreases-loop-q
-decreases-loop-q l = 4 - l.q

@@ -1,9 +1,5 @@
-use native.Mathlib.Omega.{arith}
 use Rattle.reader.proofs.WriteLaws.{writing_none, writing_all, writing_asks, writing_more}
 use Rattle.reader.proofs.records.write_endings.Goals as goal
-
-pub carried-track-requires : goal.carried-track-requires
-carried-track-requires c = tt
 
 pub loop-g-init : goal.loop-g-init
 loop-g-init c = writing_none _ _ _ _ _ c.carried-track.ensures
@@ -11,20 +7,8 @@ loop-g-init c = writing_none _ _ _ _ _ c.carried-track.ensures
 pub write_ending-at-requires : goal.write_ending-at-requires
 write_ending-at-requires c = let both = writing_asks _ _ _ _ _ _ _ _ _ c.requires.container_len.0 c.requires.container_len.1 c.requires.msgstart_value c.requires.carry_value.0 c.requires.carry_value.1 c.loop-g.invariant c.loop-g-test.true in record { container_len = both.0; from_le_g = both.1.0; ending = both.1.1.0; g_in_bounds = both.1.1.1 }
 
-pub pass-track-requires : goal.pass-track-requires
-pass-track-requires c = omega arith
-
-pub overflow_add-g : goal.overflow_add-g
-overflow_add-g c = omega arith
-
-pub loop-g-smaller : goal.loop-g-smaller
-loop-g-smaller c = omega arith
-
 pub loop-g-preserved : goal.loop-g-preserved
 loop-g-preserved c = writing_more _ _ _ _ _ _ _ _ _ c.requires.container_len.0 c.requires.container_len.1 c.requires.msgstart_value c.requires.carry_value.0 c.requires.carry_value.1 c.loop-g.invariant c.loop-g-test.true _ _ _ c.write_ending-at.ensures.end c.write_ending-at.ensures.room c.pass-track.ensures
-
-pub shape_of-room : goal.shape_of-room
-shape_of-room c = c.loop-g.invariant.long
 
 pub returns : goal.returns
 returns c = let both = writing_all _ _ _ _ _ _ _ _ _ c.requires.container_len.0 c.requires.container_len.1 c.requires.msgstart_value c.requires.carry_value.0 c.requires.carry_value.1 c.loop-g.invariant c.loop-g-test.false in record { end = both.0; room = both.1 }

@@ -1,9 +1,5 @@
-use Prim.Native.Nat.{◌-◌}
 use Rattle.reader.proofs.ScanLaws.{Scanning}
 use Rattle.reader.proofs.scan.scan_granules.Given as goal
 
 abbrev pub invariant-loop-g : goal.invariant-loop-g
-invariant-loop-g l = Scanning l.format l.container l.carry l.marks l.track l.g
-
-abbrev pub decreases-loop-g : goal.decreases-loop-g
-decreases-loop-g l = 12 - l.g
+invariant-loop-g l = Scanning l.format l.container l.carry l.marks l.track l.g-counter

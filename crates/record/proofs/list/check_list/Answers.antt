@@ -1,9 +1,10 @@
 use Prim.Native.Nat.{◌+◌, ◌≤◌, ◌<◌}
-use mathlib.Core.Path.{◌≡◌, sym, ◌∙◌}
+use mathlib.Core.Path.{◌≡◌, sym, ap, ◌∙◌}
 use borrow.Author.Rules.{rules}
 use native.Mathlib.Omega.{arith}
 use lib.ListN.{length, drop}
 use Rattle.record.specs.declared.list.First.TheVariants.{Whole}
+use Rattle.std.specs.Prelude.{Err}
 use Rattle.record.specs.Records.{first_of}
 use Rattle.record.proofs.RecordLaws.{found, offset_next, fault_start, fault_next, fault_bad, fault_empty, fault_end}
 use Rattle.record.proofs.list.check_list.Goals.{In-Whole}
@@ -18,7 +19,7 @@ returns-in-Empty c = let l = c.args.list.now in
 
 pub returns-in-Bad : goal.returns-in-Bad
 returns-in-Bad c = let l = c.args.list.now in
-    sym (c.loop-at.invariant.1 ∙ fault_bad l c.loop-at.at (found l c.loop-at.at _ _ c.read_record-first.ensures c.in-Bad.is))
+    ap Err c.at.ensures ∙ sym (c.loop-at.invariant.1 ∙ fault_bad l c.loop-at.at (found l c.loop-at.at _ _ c.read_record-first.ensures c.in-Bad.is))
 
 -- the record that a turn passes over
 

@@ -3,13 +3,13 @@ use Rattle.record.proofs.RecordLaws.{cut_short, cut_whole, cut_other}
 use Rattle.record.proofs.list.cut_record.Goals as goal
 
 pub returns-then-list-used : goal.returns-then-list-used
-returns-then-list-used c = cut_short _ _ _ _ c.in-Value.is (omega arith)
+returns-then-list-used c = cut_short _ _ _ _ c.in-Some.is (omega arith)
 
 pub returns-then-list-used-2 : goal.returns-then-list-used-2
-returns-then-list-used-2 c = cut_short _ _ _ _ c.in-Value.is (omega arith)
+returns-then-list-used-2 c = cut_short _ _ _ _ c.in-Some.is (omega arith)
 
 pub returns-then-is_message : goal.returns-then-is_message
-returns-then-is_message c = cut_whole _ _ _ _ c.in-Value.is (omega arith) _ c.is_message.ensures c.if-is_message.true
+returns-then-is_message c = cut_whole _ _ _ _ c.in-Some.is (omega arith) _ c.is_message.ensures c.if-is_message.true
 
-pub returns-else-is_message : goal.returns-else-is_message
-returns-else-is_message c = cut_other _ _ _ _ c.in-Value.is (omega arith) _ c.is_message.ensures c.if-is_message.false
+pub returns : goal.returns
+returns c = cut_other _ _ _ _ c.in-Some.is (omega arith) _ c.is_message.ensures c.if-is_message.false

@@ -1,30 +1,29 @@
+use Prim.Native.Nat.{◌≤◌}
+use mathlib.Core.Path.{sym, ◌∙◌}
+use lib.ListN.{length}
+use Rattle.std.specs.Prelude.{None}
 use Rattle.feeder.proofs.StepLaws.{bounds, part_is}
-use Rattle.feeder.specs.declared.found.Waiting.TheVariants.{Responses, Others, Neither}
+use Rattle.feeder.proofs.feed.Feed.next_record.Goals.{After-position_in-end}
 use Rattle.feeder.proofs.feed.Feed.next_record.Goals as goal
 
+inside : (c : After-position_in-end) → (c.position_in-start.result ≤ c.position_in-end.result) × (c.position_in-end.result ≤ length c.pick_list-bytes.result.now)
+inside c =
+    rw (c.position_in-start.ensures, c.position_in-end.ensures, c.pick_list-bytes.ensures)
+    (bounds c.args.format _ _ _ _ c.next_step-answer.ensures _ (sym c.list_served.ensures ∙ c.in-Some.is))
+
 pub slice_bounds-result-count : goal.slice_bounds-result-count
-slice_bounds-result-count c = (bounds c.args.format c.args.responses.now c.args.others.now c.args.self _ c.next_step-step.ensures _ c.list_served-list.ensures Responses c.in-Responses.is).0
+slice_bounds-result-count c = (inside c).0
 
 pub slice_bounds-result-start : goal.slice_bounds-result-start
-slice_bounds-result-start c = (bounds c.args.format c.args.responses.now c.args.others.now c.args.self _ c.next_step-step.ensures _ c.list_served-list.ensures Responses c.in-Responses.is).0
+slice_bounds-result-start c = (inside c).0
 
 pub slice_bounds-result-end : goal.slice_bounds-result-end
-slice_bounds-result-end c = (bounds c.args.format c.args.responses.now c.args.others.now c.args.self _ c.next_step-step.ensures _ c.list_served-list.ensures Responses c.in-Responses.is).1
+slice_bounds-result-end c = (inside c).1
 
-pub slice_bounds-result-count-in-Others : goal.slice_bounds-result-count-in-Others
-slice_bounds-result-count-in-Others c = (bounds c.args.format c.args.responses.now c.args.others.now c.args.self _ c.next_step-step.ensures _ c.list_served-list.ensures Others c.in-Others.is).0
+pub returns-in-Some : goal.returns-in-Some
+returns-in-Some c =
+    rw (c.position_in-start.ensures, c.position_in-end.ensures, c.pick_list-bytes.ensures)
+    (part_is _ _ _ _ _ c.next_step-answer.ensures _ (sym c.list_served.ensures ∙ c.in-Some.is))
 
-pub slice_bounds-result-start-in-Others : goal.slice_bounds-result-start-in-Others
-slice_bounds-result-start-in-Others c = (bounds c.args.format c.args.responses.now c.args.others.now c.args.self _ c.next_step-step.ensures _ c.list_served-list.ensures Others c.in-Others.is).0
-
-pub slice_bounds-result-end-in-Others : goal.slice_bounds-result-end-in-Others
-slice_bounds-result-end-in-Others c = (bounds c.args.format c.args.responses.now c.args.others.now c.args.self _ c.next_step-step.ensures _ c.list_served-list.ensures Others c.in-Others.is).1
-
-pub returns-in-Responses : goal.returns-in-Responses
-returns-in-Responses c = part_is c.args.format c.args.responses.now c.args.others.now c.args.self _ c.next_step-step.ensures _ c.list_served-list.ensures Responses c.in-Responses.is
-
-pub returns-in-Others : goal.returns-in-Others
-returns-in-Others c = part_is c.args.format c.args.responses.now c.args.others.now c.args.self _ c.next_step-step.ensures _ c.list_served-list.ensures Others c.in-Others.is
-
-pub returns-in-Neither : goal.returns-in-Neither
-returns-in-Neither c = part_is c.args.format c.args.responses.now c.args.others.now c.args.self _ c.next_step-step.ensures _ c.list_served-list.ensures Neither c.in-Neither.is
+pub returns-in-None : goal.returns-in-None
+returns-in-None c = part_is _ _ _ _ _ c.next_step-answer.ensures None (sym c.list_served.ensures ∙ c.in-None.is)

@@ -4,10 +4,10 @@ use mathlib.Core.Bool.{not}
 use Rattle.ledger.proofs.ledger.Ledger.audit.Goals as goal
 
 pub returns-then-not-admits : goal.returns-then-not-admits
-returns-then-not-admits c = audit_invalid c.args.self c.args.direction c.args.container.now c.admits.ensures (ap not c.if-not-admits.true) c.refuse.ensures
+returns-then-not-admits c = audit_invalid c.args.self c.args.direction c.args.container.now c.admits.ensures (ap not c.if-not-admits.true) c.at.ensures c.refuse.ensures
 
 pub returns-then-container-ne-CONTAINER : goal.returns-then-container-ne-CONTAINER
-returns-then-container-ne-CONTAINER c = audit_long c.args.self c.args.direction c.args.container.now c.admits.ensures (ap not c.if-not-admits.false) c.if-container-ne-CONTAINER.true c.refuse-then-container-ne-CONTAINER.ensures
+returns-then-container-ne-CONTAINER c = audit_long c.args.self c.args.direction c.args.container.now c.admits.ensures (ap not c.if-not-admits.false) c.if-container-ne-CONTAINER.true c.at-then-container-ne-CONTAINER.ensures c.refuse-then-container-ne-CONTAINER.ensures
 
 pub audit_valid-requires : goal.audit_valid-requires
 audit_valid-requires c = let a = audit_admitted c.args.self c.args.direction c.args.container.now c.admits.ensures (ap not c.if-not-admits.false) in

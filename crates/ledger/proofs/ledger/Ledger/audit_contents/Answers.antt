@@ -18,4 +18,4 @@ returns-in-Refused c = let s = c.args.self in
     let d = c.args.direction in
     let b = c.args.container.now in
     let made : c.judge-judged.result ≡ judging (reader_of s d) b = c.judge-judged.ensures ∙ ap (λ (r : Reader). judging r b) c.choose_reader.ensures in
-    read_refused s d b c.requires.0 c.requires.1 c.requires.2 (judged_refused (reader_of s d) b c.judge-judged.result made _ _ c.in-Refused.is) c.refuse.ensures
+    read_refused s d b c.requires.0 c.requires.1 c.requires.2 (judged_refused (reader_of s d) b c.judge-judged.result made _ _ c.in-Refused.is) c.at.ensures c.refuse.ensures

@@ -5,13 +5,12 @@ use lib.ListN.{length, drop, length-drop}
 use borrow.Author.Rules.{rules}
 use Rattle.lists.proofs.PartLaws.{rest_is}
 use Rattle.ledger.specs.Run.{run_over}
-use Rattle.logs.specs.Stream.{max_entries, stopped_at}
+use Rattle.logs.specs.Stream.{max_entries, stopped_at, Outcome}
 use Rattle.logs.specs.ConcludingMirror.{concluding}
-use Rattle.logs.specs.declared.log.Outcome.{Outcome}
 use Rattle.logs.proofs.LogRuns.{state_by, said_by, call_run, run_room}
-use Rattle.cause.specs.declared.Verdict.{Verdict}
 use Rattle.logs.proofs.log.LogReader.read_entries.Goals.{After-audit_entries-run}
 use Rattle.logs.proofs.log.LogReader.read_entries.Goals as goal
+use Rattle.cause.specs.Checks.{Verdict}
 
 -- the run over the entries at hand
 
@@ -36,23 +35,23 @@ overflow_add-offset c = let r = (room (goal.at.overflow_add-offset c).After-audi
 pub overflow_sub-bytes : goal.overflow_sub-bytes
 overflow_sub-bytes c = (room (goal.at.overflow_sub-bytes c).After-audit_entries-run).0
 
-pub returns-in-Refused : goal.returns-in-Refused
-returns-in-Refused c = let s = c.args.self in
+pub returns-in-Err : goal.returns-in-Err
+returns-in-Err c = let s = c.args.self in
     let b = c.args.bytes.now in
     let r = c.audit_entries-run.result in
     c.stop_at.ensures
     ∙ ap (λ (o : Outcome). stopped_at (c.args.from + r.used) (state_by b c.args.from c.args.ended s r) o)
-    (c.refuse_log.ensures ∙ ap (λ (a : Verdict). said_by a (s.entries + r.accepted) (s.offset + r.used) (length (drop (c.args.from + r.used) b)) c.args.ended) (sym c.in-Refused.is))
-    ∙ call_run b c.args.from c.args.ended s r c.requires.1 (ran (goal.at.returns-in-Refused c).After-audit_entries-run)
+    (c.refuse_log.ensures ∙ ap (λ (a : Verdict). said_by a (s.entries + r.accepted) (s.offset + r.used) (length (drop (c.args.from + r.used) b)) c.args.ended) (sym c.in-Err.is))
+    ∙ call_run b c.args.from c.args.ended s r c.requires.1 (ran (goal.at.returns-in-Err c).After-audit_entries-run)
 
-pub returns-in-Accepted : goal.returns-in-Accepted
-returns-in-Accepted c = let s = c.args.self in
+pub returns-in-Ok : goal.returns-in-Ok
+returns-in-Ok c = let s = c.args.self in
     let b = c.args.bytes.now in
     let r = c.audit_entries-run.result in
     let at = c.args.from + r.used in
-    c.stop_at-in-Accepted.ensures
+    c.stop_at-in-Ok.ensures
     ∙ ap (λ (o : Outcome). stopped_at at (state_by b c.args.from c.args.ended s r) o)
     (c.conclude.ensures
     ∙ ap (λ (n : ℕ). concluding (s.entries + r.accepted) (s.offset + r.used) n c.args.ended) (sym (length-drop at b))
-    ∙ ap (λ (a : Verdict). said_by a (s.entries + r.accepted) (s.offset + r.used) (length (drop at b)) c.args.ended) (sym c.in-Accepted.is))
-    ∙ call_run b c.args.from c.args.ended s r c.requires.1 (ran (goal.at.returns-in-Accepted c).After-audit_entries-run)
+    ∙ ap (λ (a : Verdict). said_by a (s.entries + r.accepted) (s.offset + r.used) (length (drop at b)) c.args.ended) (sym c.in-Ok.is))
+    ∙ call_run b c.args.from c.args.ended s r c.requires.1 (ran (goal.at.returns-in-Ok c).After-audit_entries-run)

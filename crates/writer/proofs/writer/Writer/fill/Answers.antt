@@ -2,34 +2,26 @@ use mathlib.Core.Path.{◌≡◌, sym, ◌∙◌}
 use native.Mathlib.Omega.{arith}
 use lib.ListN.{length}
 use borrow.Author.Rules.{rules}
-use Rattle.cause.specs.declared.Verdict.TheVariants.{Accepted}
 use Rattle.writer.specs.Filling.{fill_fault}
 use Rattle.writer.proofs.StateCases.{Callable, fill_callable}
-use Rattle.writer.proofs.AnswerLaws.{fill_refused, bytes_refused, fill_asks, starts_low, left_low, from_low, left_within, fill_done, bytes_done}
+use Rattle.writer.proofs.AnswerLaws.{fill_asks, starts_low, left_low, from_low, left_within, fill_done, bytes_done}
 use Rattle.writer.proofs.writer.Writer.fill.Goals.{In_default}
 use Rattle.writer.proofs.writer.Writer.fill.Goals as goal
-
-pub returns-in-Refused : goal.returns-in-Refused
-returns-in-Refused c =
-    let faulty = sym c.check_fill-verdict.ensures ∙ c.in-Refused.is in
-    record {
-      step = fill_refused c.args.self c.args.list.now c.args.grant c.args.container.now _ _ faulty;
-      bytes = bytes_refused c.args.self c.args.list.now c.args.grant c.args.container.now _ _ faulty;
-    }
+use Rattle.cause.specs.Checks.{Accepted}
 
 -- the tail's array, and the verdict behind which the container is filled
 long : (c : In_default) → length c.args.self.tail ≡ 100
 long c = search rules
 
 sound : (c : In_default) → fill_fault c.args.self c.args.list.now c.args.grant (length c.args.container.now) ≡ Accepted
-sound c = sym c.check_fill-verdict.ensures ∙ c.in_default.is
+sound c = sym c.check_fill.ensures ∙ c.in_default.is
 
 can : (c : In_default) → Callable c.args.self c.args.list.now c.args.grant (length c.args.container.now)
 can c = fill_callable c.args.self c.args.list.now c.args.grant (length c.args.container.now) (sound c)
 
-pub slice_bounds-fill_granules-end : goal.slice_bounds-fill_granules-end
-slice_bounds-fill_granules-end c =
-    let d = (goal.at.slice_bounds-fill_granules-end c).In_default in
+pub shared_ref_as_front-tail : goal.shared_ref_as_front-tail
+shared_ref_as_front-tail c =
+    let d = (goal.at.shared_ref_as_front-tail c).In_default in
     omega (arith, long d, (can d).valid.short)
 
 pub fill_granules-cursor-requires : goal.fill_granules-cursor-requires

@@ -1,7 +1,0 @@
-use Rattle.feeder.proofs.feed.Feed.hand_other.Goals as goal
-
-pub returns-in-Right : goal.returns-in-Right
-returns-in-Right c = rw c.in-Right.is
-
-pub returns-in-Wrong : goal.returns-in-Wrong
-returns-in-Wrong c = rw c.in-Wrong.is c.refuse.ensures
