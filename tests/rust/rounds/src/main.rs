@@ -9,11 +9,10 @@ mod bench {
     include!(concat!(env!("OUT_DIR"), "/bench.rs"));
 }
 
-use bench::cause::Verdict;
 use bench::container::Grant;
 use bench::host::c2c_check;
 use bench::ledger::Ledger;
-use bench::logs::{LogReader, LogVerdict, Outcome};
+use bench::logs::{LogReader, LogVerdict};
 use bench::reader::{Answer as Reading, JudgeAnswer, Reader};
 use bench::slices::is_zero;
 use bench::writer::{Answer as Filling, Writer};
@@ -56,7 +55,7 @@ fn read(reader: Reader) -> usize {
 }
 
 fn audit(ledger: Ledger, direction: u8) -> usize {
-    accepted(|| matches!(ledger.audit(direction.into(), &IDLE).answer, Verdict::Accepted))
+    accepted(|| ledger.audit(direction.into(), &IDLE).answer.is_ok())
 }
 
 /// An entry of an all-zero container, as lists and logs have it.
@@ -65,13 +64,13 @@ fn entry(direction: u8) -> Vec<u8> {
 }
 
 fn audit_entries(ledger: Ledger, direction: u8) -> usize {
-    accepted(|| matches!(ledger.audit_entries(&entry(direction), 1).answer, Verdict::Accepted))
+    accepted(|| ledger.audit_entries(&entry(direction), 1).answer.is_ok())
 }
 
 /// The one entry of a log behind a configuration of one byte a number.
 fn consume(ledger: Ledger, direction: u8) -> usize {
     let log = LogReader { ledger, entries: 0, offset: NUMBERS as u64 };
-    accepted(|| matches!(log.consume(&entry(direction), true).outcome, Outcome::Over(LogVerdict::Accepted { .. })))
+    accepted(|| matches!(log.consume(&entry(direction), true).outcome, Some(LogVerdict::Accepted { .. })))
 }
 
 /// An all-zero container filled from an empty list, with so many granules owed.
