@@ -2,6 +2,7 @@
 use Prim.Native.Nat.{ℕ}
 use mathlib.Core.Path.{◌≡◌, refl, sym, ap, ◌∙◌}
 use mathlib.Core.Logic.{◌↔◌}
+use native.Mathlib.Omega.{arith}
 use Rattle.std.specs.Prelude.{Result, Ok, Err}
 use Rattle.cause.specs.Checks.{Verdict, Accepted, Refused, given}
 use Rattle.cause.specs.declared.Cause.{Cause}
@@ -32,3 +33,17 @@ module _ {A : Type 0} (a : A) where
 
   pub accepted_as : (v : Verdict) {P : Type 0} → (v ≡ Accepted) ↔ P → (given v a ≡ Ok a) ↔ P
   accepted_as v h = let g = given_accepted v in (λ e. h.0 (g.0 e), λ x. g.1 (h.1 x))
+
+pub given_fault : {A : Type 0} (v : Verdict) (a : A) {fault : Fault} → given v a ≡ Err fault → v ≡ Err fault
+given_fault v a {fault} e = (given_refused a v fault.cause fault.place).0 e
+
+pub given_fine : {A : Type 0} (v : Verdict) (a : A) {b : A} → given v a ≡ Ok b → (v ≡ Accepted) × (b ≡ a)
+given_fine (Ok _) a e = (refl, cc)
+given_fine (Err fault) a e = let z : ◌≡◌ {A = ℕ} 0 1 = cc in absurd (omega arith)
+
+-- and back: the fault of a verdict, and what is given where it is sound
+pub fault_given : {v : Verdict} {fault : Fault} → v ≡ Err fault → {A : Type 0} (a : A) → Err fault ≡ given v a
+fault_given h a = rw h
+
+pub fine_given : {v : Verdict} → v ≡ Accepted → {A : Type 0} (a : A) → Ok a ≡ given v a
+fine_given h a = rw h

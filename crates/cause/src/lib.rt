@@ -47,10 +47,7 @@ impl Cause {
     pub fn at(self, place: u64) -> Fault
         ensures { result ≡ record { cause = self; place = place } }
     {
-        Fault {
-            cause: self,
-            place: place,
-        }
+        Fault { cause: self, place }
     }
 }
 

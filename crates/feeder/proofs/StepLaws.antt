@@ -5,7 +5,7 @@ use mathlib.Core.Path.{◌≡◌, refl, sym}
 use mathlib.Core.List.{List, [], append-nil}
 use mathlib.Core.Logic.{inl, inr}
 use native.Mathlib.Omega.{arith}
-use lib.ListN.{length, length-append}
+use lib.ListN.{length}
 use Rattle.lists.specs.Parts.{part}
 use Rattle.lists.proofs.PartLaws.{length_part}
 use Rattle.cause.specs.declared.Cause.{Cause}
@@ -149,15 +149,6 @@ module _ (f : ℕ) (R O : List ℕ) (s : Feed) where
       (λ end e. let l = found_within Others O s.other v.other end e in let k = h.1 in (b, omega arith)) (b, c) (due_of (length R) (length O) s))
 
 -- ---- both lists at once
-
-pub moves_long : (R O : List ℕ) (s e : Feed) → Moves R O s e → (e.response - s.response) + (e.other - s.other) ≡ length (moved_over R O s e)
-moves_long R O s e m =
-    let h = m.forward in
-    let k = m.within in
-    let a = length_part s.response (e.response - s.response) R (omega arith) in
-    let b = length_part s.other (e.other - s.other) O (omega arith) in
-    let c = length-append (part s.response (e.response - s.response) R) (part s.other (e.other - s.other) O) in
-    omega arith
 
 -- nothing lies between a position and itself
 pub none_over : (at : ℕ) (l : List ℕ) → part at (at - at) l ≡ []

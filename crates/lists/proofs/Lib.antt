@@ -1,6 +1,5 @@
 pub mod Tests
 pub mod Order
-pub mod Codes
 pub mod Tables
 pub mod PickLaws
 pub mod ReorderLaws

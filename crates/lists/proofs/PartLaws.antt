@@ -19,9 +19,6 @@ length_zero (x ∷ l) e = absurd (omega arith)
 pub rest_is : {A : Type 0} (s : List A) (at : ℕ) → take (length s - at) (drop at s) ≡ drop at s
 rest_is s at = take_all (length s - at) (drop at s) (omega (arith, length-drop at s))
 
-pub length_rest : {A : Type 0} (s : List A) (at : ℕ) → length (take (length s - at) (drop at s)) ≡ length s - at
-length_rest s at = rw (rest_is s at) (length-drop at s)
-
 -- what stands behind an offset of a list of bytes is bytes
 pub bytes_drop : (l : List ℕ) (at : ℕ) → IsBytes l → IsBytes (drop at l)
 bytes_drop l at h i = rw (get_or-drop at l i 0) (h (at + i))

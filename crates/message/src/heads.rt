@@ -9,7 +9,7 @@ use crate::codes::{
     RESP, RESP2, SNOOP, WR_REQ_DATA_L, WR_REQ_DATA_S,
 };
 use container::is_form;
-use slices::{byte_at, is_zero, is_zero_from};
+use slices::{byte_at, is_zero, is_zero_from, item_or};
 
 // Which credits a message pays, by its type.
 #[derive(Clone, Copy)]
@@ -80,18 +80,13 @@ pub fn classify_message(msgtype: u8) -> Class
     ensures { result ≡ class_of msgtype }
 {
     match msgtype {
-        0 => Class::Unknown,
-        REQ_S => Class::Request,
-        REQ_L => Class::Request,
-        RESP => Class::Response,
-        RESP2 => Class::Response,
+        REQ_S | REQ_L => Class::Request,
+        RESP | RESP2 => Class::Response,
         SNOOP => Class::Snoop,
-        DATA_S => Class::Data,
-        DATA_L => Class::Data,
-        WR_REQ_DATA_S => Class::RequestData,
-        WR_REQ_DATA_L => Class::RequestData,
+        DATA_S | DATA_L => Class::Data,
+        WR_REQ_DATA_S | WR_REQ_DATA_L => Class::RequestData,
         MISC_U => Class::Misc,
-        11..=255 => Class::Unknown,
+        0 | 11..=255 => Class::Unknown,
     }
 }
 
@@ -99,10 +94,7 @@ pub fn classify_message(msgtype: u8) -> Class
 pub fn is_misc(msgtype: u8, op: u8, wanted: u8) -> bool
     ensures { result ≡ misc_by msgtype op wanted }
 {
-    if msgtype == MISC_U {
-        return op == wanted;
-    }
-    false
+    msgtype == MISC_U && op == wanted
 }
 
 // One above the largest value of byte 0 bits 4 to 7, by type.
@@ -112,36 +104,24 @@ const FLAG_BOUNDS: [u8; 11] = [0, 16, 16, 1, 1, 1, 2, 2, 16, 16, 1];
 fn bound_flags(msgtype: u8) -> u8
     ensures { result ≡ flag_bound msgtype }
 {
-    if msgtype < 11 {
-        return FLAG_BOUNDS[msgtype as usize];
-    }
-    0
+    item_or(&FLAG_BOUNDS, msgtype as usize, 0)
 }
 
 // Whether byte 1 keeps the rule of types 8 and 9.
 fn keeps_push(msgtype: u8, byte1: u8) -> bool
     ensures { result ≡ push_by msgtype byte1 }
 {
-    if msgtype == WR_REQ_DATA_S {
-        return byte1 < 2;
+    match msgtype {
+        WR_REQ_DATA_S | WR_REQ_DATA_L => byte1 < 2,
+        0..=255 => true,
     }
-    if msgtype == WR_REQ_DATA_L {
-        return byte1 < 2;
-    }
-    true
 }
 
 // Whether byte 2 keeps the rule of an Activation.
 fn keeps_activation(msgtype: u8, op: u8, byte2: u8) -> bool
     ensures { result ≡ activation_by msgtype op byte2 }
 {
-    if is_misc(msgtype, op, ACTIVATION) {
-        if 1 <= byte2 {
-            return byte2 <= 5;
-        }
-        return false;
-    }
-    true
+    !is_misc(msgtype, op, ACTIVATION) || 1 <= byte2 && byte2 <= 5
 }
 
 // Whether bytes 7 to 15 are zero, as far as there are such.
@@ -158,10 +138,7 @@ fn has_zero_tail(message: &[u8]) -> bool
 fn holds_grant(message: &[u8]) -> bool
     ensures { result ≡ (form_ok (get_or message.now 2 0) && zeros (part 7 9 message.now)) }
 {
-    if is_form(byte_at(message, 2)) {
-        return has_zero_tail(message);
-    }
-    false
+    is_form(byte_at(message, 2)) && has_zero_tail(message)
 }
 
 // Whether the bits of byte 0, and bytes 1 and 2, keep the rules that hold of them alone.
@@ -169,23 +146,16 @@ pub fn keeps_bytes(byte0: u8, byte1: u8, byte2: u8) -> bool
     ensures { result ≡ (ltb (byte0 / 16) (flag_bound (byte0 % 16)) && (push_by (byte0 % 16) byte1 && activation_by (byte0 % 16) byte1 byte2)) }
 {
     let msgtype = byte0 % 16;
-    if bound_flags(msgtype) <= byte0 / 16 {
-        return false;
-    }
-    if keeps_push(msgtype, byte1) {
-        return keeps_activation(msgtype, byte1, byte2);
-    }
-    false
+    byte0 / 16 < bound_flags(msgtype)
+        && keeps_push(msgtype, byte1)
+        && keeps_activation(msgtype, byte1, byte2)
 }
 
 // Whether bytes 2 to 15 keep the rule of a CrdtGrant.
 pub fn keeps_grant(msgtype: u8, op: u8, message: &[u8]) -> bool
     ensures { result ≡ grant_by msgtype op message.now }
 {
-    if is_misc(msgtype, op, CRDT_GRANT) {
-        return holds_grant(message);
-    }
-    true
+    !is_misc(msgtype, op, CRDT_GRANT) || holds_grant(message)
 }
 
 // Whether the head bits and bytes of a message are right.
@@ -194,10 +164,7 @@ pub fn is_well_headed(message: &[u8]) -> bool
 {
     let byte0 = byte_at(message, 0);
     let byte1 = byte_at(message, 1);
-    if keeps_bytes(byte0, byte1, byte_at(message, 2)) {
-        return keeps_grant(byte0 % 16, byte1, message);
-    }
-    false
+    keeps_bytes(byte0, byte1, byte_at(message, 2)) && keeps_grant(byte0 % 16, byte1, message)
 }
 
 // Whether the bytes are a whole message with a right head.
@@ -205,11 +172,5 @@ pub fn is_message(message: &[u8]) -> bool
     ensures { result ≡ is_message message.now }
 {
     let size = measure_message(message);
-    if size != message.len() {
-        return false;
-    }
-    if size == 0 {
-        return false;
-    }
-    is_well_headed(message)
+    size != 0 && size == message.len() && is_well_headed(message)
 }

@@ -12,36 +12,22 @@ fn fits_in(format: u32, g: u8, msgtype: u8, op: u8) -> bool
     ensures { result ≡ fits_in (format_of format) g msgtype op }
 {
     let size = measure_granule(format, g);
-    if size == WIDE {
-        return true;
-    }
-    if msgtype == RESP {
-        return measure_code(msgtype, op) <= size;
-    }
-    if msgtype == MISC_U {
-        return measure_code(msgtype, op) <= size;
-    }
-    false
+    let is_short = msgtype == RESP || msgtype == MISC_U;
+    size == WIDE || is_short && measure_code(msgtype, op) <= size
 }
 
 // Whether the rule that LinkStatus goes only in G0 is kept.
 fn keeps_first(g: u8, msgtype: u8, op: u8) -> bool
     ensures { result ≡ first_only g msgtype op }
 {
-    if is_misc(msgtype, op, LINK_STATUS) {
-        return g == 0;
-    }
-    true
+    !is_misc(msgtype, op, LINK_STATUS) || g == 0
 }
 
 // Whether a message of this type and op may start at granule g.
 pub fn may_start(format: u32, g: u8, msgtype: u8, op: u8) -> bool
     ensures { result ≡ placed_by (format_of format) g msgtype op }
 {
-    if fits_in(format, g, msgtype, op) {
-        return keeps_first(g, msgtype, op);
-    }
-    false
+    fits_in(format, g, msgtype, op) && keeps_first(g, msgtype, op)
 }
 
 // The responses that a message of this type counts for.
@@ -59,8 +45,5 @@ pub fn count_responses(msgtype: u8) -> u32
 pub fn count_miscs(msgtype: u8) -> u32
     ensures { result ≡ miscs_by msgtype }
 {
-    if msgtype == MISC_U {
-        return 1;
-    }
-    0
+    u32::from(msgtype == MISC_U)
 }

@@ -33,10 +33,7 @@ fn cut_record(list: &[u8], number: Option<Number>) -> First
     }
     let end = used + size;
     if is_message(&list[used..end]) {
-        return First::Whole {
-            start: used,
-            end: end,
-        };
+        return First::Whole { start: used, end };
     }
     First::Bad
 }

@@ -78,7 +78,7 @@ pub fn encode_number(value: u32) -> Encoded
     }
     bytes[len] = rest as u8;
     Encoded {
-        bytes: bytes,
+        bytes,
         len: len + 1,
     }
 }

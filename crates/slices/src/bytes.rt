@@ -16,27 +16,12 @@ pub fn byte_at(part: &[u8], i: usize) -> u8
     item_or(part, i, 0)
 }
 
-// A byte in 64 bits.
-fn widen(byte: u8) -> u64
-    ensures { (result ≡ byte) × (result ≤ 255) }
-{
-    byte as u64
-}
-
-// The two bytes from `at` on as one number, the first of them lowest.
-fn join_two(bytes: &[u8], at: usize) -> u64
-    requires { at + 2 ≤ length bytes.now }
-    ensures { (eqb result 0 ≡ zeros (part at 2 bytes.now)) × (result ≤ 65535) }
-{
-    widen(bytes[at]) + 256 * widen(bytes[at + 1])
-}
-
 // The four bytes from `at` on as one number.
-fn join_four(bytes: &[u8], at: usize) -> u64
+fn join_four(bytes: &[u8], at: usize) -> u32
     requires { at + 4 ≤ length bytes.now }
-    ensures { (eqb result 0 ≡ zeros (part at 4 bytes.now)) × (result ≤ 4294967295) }
+    ensures { eqb result 0 ≡ zeros (part at 4 bytes.now) }
 {
-    join_two(bytes, at) + 65536 * join_two(bytes, at + 2)
+    u32::from_le_bytes(bytes[at..at + 4].try_into().unwrap())
 }
 
 // The eight bytes from `at` on as one number.
@@ -44,22 +29,22 @@ fn join_eight(bytes: &[u8], at: usize) -> u64
     requires { at + 8 ≤ length bytes.now }
     ensures { eqb result 0 ≡ zeros (part at 8 bytes.now) }
 {
-    join_four(bytes, at) + 4294967296 * join_four(bytes, at + 4)
+    u64::from_le_bytes(bytes[at..at + 8].try_into().unwrap())
 }
 
-// The eight bytes from `at` on as one number, merged by `or` with the eight behind them.
-fn merge_sixteen(bytes: &[u8], at: usize) -> u64
+// The sixteen bytes from `at` on as one number.
+fn join_sixteen(bytes: &[u8], at: usize) -> u128
     requires { at + 16 ≤ length bytes.now }
     ensures { eqb result 0 ≡ zeros (part at 16 bytes.now) }
 {
-    join_eight(bytes, at) | join_eight(bytes, at + 8)
+    u128::from_le_bytes(bytes[at..at + 16].try_into().unwrap())
 }
 
 // The sum of the first three bytes, or of as many of them as there are.
 fn sum_three(part: &[u8]) -> u64
     ensures { result ≡ sum (take 3 part.now) }
 {
-    widen(byte_at(part, 0)) + widen(byte_at(part, 1)) + widen(byte_at(part, 2))
+    u64::from(byte_at(part, 0)) + u64::from(byte_at(part, 1)) + u64::from(byte_at(part, 2))
 }
 
 // Whether fewer than sixteen bytes are all zero: by the first and the last eight or four of them, which may overlap, or by their sum.
@@ -84,13 +69,11 @@ pub fn is_zero(part: &[u8]) -> bool
         return is_short_zero(part);
     }
     let last = part.len() - 16;
-    let mut bits: u64 = 0;
-    let mut i = 0;
-    while i < last {
-        bits = bits | merge_sixteen(part, i);
-        i += 16;
+    let mut bits = 0;
+    for i in (0..last).step_by(16) {
+        bits |= join_sixteen(part, i);
     }
-    (bits | merge_sixteen(part, last)) == 0
+    (bits | join_sixteen(part, last)) == 0
 }
 
 // Whether all bytes from `from` on are zero.

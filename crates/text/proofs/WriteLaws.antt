@@ -17,7 +17,7 @@ use Rattle.lists.proofs.PutLaws.{put_more}
 use Rattle.cause.specs.Causes.{cause_number}
 use Rattle.cause.specs.declared.Cause.{Cause}
 use Rattle.cause.proofs.CauseLaws.{number_most}
-use Rattle.text.specs.Lines.{decimal, spaced, newline, fault_words, verdict_line, refusal_line, min_room, room_of, answer_of}
+use Rattle.text.specs.Lines.{decimal, spaced, newline, fault_words, verdict_line, min_room, room_of, answer_of}
 use Rattle.text.proofs.DecimalLaws.{decimal_digits, spaced_most, spaced_small}
 use Rattle.cause.specs.Checks.{Verdict}
 use Rattle.std.specs.Prelude.{Ok, Err}
@@ -108,9 +108,6 @@ line_refused line l small =
 pub verdict_most : (e : ℕ) (v : Verdict) → length (verdict_line e v) ≤ min_room
 verdict_most e (Ok _) = omega (arith, spaced_most e, length-append (spaced e) newline)
 verdict_most e (Err fault) = omega (arith, spaced_most e, fault_most fault.cause fault.place, length-append (spaced e) (fault_words fault.cause fault.place))
-
-pub refusal_most : (c : Cause) (p : ℕ) → length (refusal_line c p) ≤ min_room
-refusal_most c p = omega (arith, fault_most c p)
 
 pub line_front : (line l : List ℕ) → min_room ≤ length l → take (answer_of line l) (room_of line l) ≡ line
 line_front line l large =

@@ -1,12 +1,6 @@
 use native.Mathlib.Omega.{arith}
-use Rattle.record.proofs.RecordLaws.{cut_short, cut_whole, cut_other}
+use Rattle.record.proofs.RecordLaws.{cut_whole, cut_other}
 use Rattle.record.proofs.list.cut_record.Goals as goal
-
-pub returns-then-list-used : goal.returns-then-list-used
-returns-then-list-used c = cut_short _ _ _ _ c.in-Some.is (omega arith)
-
-pub returns-then-list-used-2 : goal.returns-then-list-used-2
-returns-then-list-used-2 c = cut_short _ _ _ _ c.in-Some.is (omega arith)
 
 pub returns-then-is_message : goal.returns-then-is_message
 returns-then-is_message c = cut_whole _ _ _ _ c.in-Some.is (omega arith) _ c.is_message.ensures c.if-is_message.true

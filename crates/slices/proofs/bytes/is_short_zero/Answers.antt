@@ -13,7 +13,7 @@ returns-then-part-ge8 c = let l = c.args.part.now in
 
 pub returns-then-part-ge4 : goal.returns-then-part-ge4
 returns-then-part-ge4 c = let l = c.args.part.now in
-    ends_zero l 4 4 c.join_four.result c.join_four-then-part-ge4.result (omega arith) (omega arith) c.join_four.ensures.0 c.join_four-then-part-ge4.ensures.0
+    ends_zero l 4 4 c.join_four.result c.join_four-then-part-ge4.result (omega arith) (omega arith) c.join_four.ensures c.join_four-then-part-ge4.ensures
 
 pub returns : goal.returns
 returns c = let l = c.args.part.now in

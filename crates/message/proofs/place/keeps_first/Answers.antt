@@ -1,7 +1,0 @@
-use Rattle.message.proofs.place.keeps_first.Goals as goal
-
-pub returns-then-is_misc : goal.returns-then-is_misc
-returns-then-is_misc c = rw (← c.is_misc.ensures, c.if-is_misc.true)
-
-pub returns : goal.returns
-returns c = rw (← c.is_misc.ensures, c.if-is_misc.false)
