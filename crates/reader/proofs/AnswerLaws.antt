@@ -8,9 +8,8 @@ use lib.ListN.{length}
 use lib.Dec.{eqb, leb}
 use borrow.Author.Tests.{le-leb, lt-leb, eq-eqb, eqb-true}
 use Rattle.lists.specs.Parts.{put}
-use Rattle.cause.specs.Checks.{check, first_fault, when_accepted, given, or_else, Verdict, Accepted, Refused}
+use Rattle.cause.specs.Checks.{check, first_fault, when_accepted, or_else, Verdict, Accepted, Refused}
 use Rattle.cause.specs.declared.Cause.{Cause}
-use Rattle.cause.specs.declared.Fault.{Fault}
 use Rattle.cause.specs.declared.Cause.TheVariants.{RoomTooSmall}
 use Rattle.cause.proofs.CheckLaws.{first_append, accepted_pass}
 use Rattle.container.specs.Layout.{format_of, msg_start}
@@ -23,16 +22,6 @@ use Rattle.reader.specs.declared.reader.Step.{Step}
 use Rattle.reader.specs.declared.reader.JudgeAnswer.TheVariants as judge
 use Rattle.reader.specs.declared.reader.Judged.{Judged}
 use Rattle.std.specs.Prelude.{Ok, Err}
-
--- ---- from what is given to its verdict
-
-pub given_fault : {A : Type 0} (v : Verdict) (a : A) {fault : Fault} → given v a ≡ Err fault → v ≡ Err fault
-given_fault (Ok _) a e = let z : ◌≡◌ {A = ℕ} 0 1 = cc in absurd (omega arith)
-given_fault (Err other) a {fault} e = let same : other ≡ fault = cc in ap Err same
-
-pub given_fine : {A : Type 0} (v : Verdict) (a : A) {b : A} → given v a ≡ Ok b → (v ≡ Accepted) × (b ≡ a)
-given_fine (Ok _) a e = (refl, cc)
-given_fine (Err fault) a e = let z : ◌≡◌ {A = ℕ} 0 1 = cc in absurd (omega arith)
 
 -- ---- from an answer to its verdict
 

@@ -6,9 +6,8 @@ use mathlib.Core.List.{List}
 use native.Mathlib.Omega.{arith}
 use lib.ListN.{length, get_or, take, drop, drop_of_length-le}
 use lib.Dec.{ltb, eqb}
-use borrow.Author.Tests.{lt-ltb, eqb-true, not-true, not-false}
+use borrow.Author.Tests.{lt-ltb, not-true, not-false}
 use Rattle.lists.specs.Parts.{zeros}
-use Rattle.lists.proofs.Tests.{and_right}
 use Rattle.cause.specs.declared.Cause.TheVariants.{StartInsideMessage, UnknownMessage, PlaceNotAllowed, HeadWrong, UnusedByteNotZero}
 use Rattle.container.specs.Layout.{Format, format_of, wide, start, granule}
 use Rattle.message.specs.Heads.{msg_size, size_by, well_headed}
@@ -75,10 +74,6 @@ module _ (fm : Format) (g : ℕ) (b : List ℕ) where
 -- the part that the code takes of granule g
 pub granule_part : (f g a n : ℕ) (c : List ℕ) → a ≡ start g → n ≡ (format_of f).size g → take ((a + n) - a) (drop a c) ≡ granule (format_of f) g c
 granule_part f g a n c ea en = let d : (a + n) - a ≡ n = omega arith in rw (d, ea, en)
-
--- a message goes on in a wide granule alone
-pub on_wide : (on : Bool) (owed n k : ℕ) → on ≡ (ltb 0 owed && eqb n 20) → n ≡ k → on ≡ true → k ≡ 20
-on_wide on owed n k e q t = sym q ∙ eqb-true n 20 (and_right (ltb 0 owed) (eqb n 20) (sym e ∙ t))
 
 -- equal parts make equal cells
 pub same_answer : (f g owed : ℕ) {on : Bool} {n : ℕ} → on ≡ (ltb 0 owed && eqb n 20) → n ≡ (format_of f).size g → {s t : Bool} → s ≡ t → {a b : List ℕ} → a ≡ b → {r : Result Granule Cause} → r ≡ cell_answer (format_of f) g (cell_from on s a) → r ≡ cell_answer (format_of f) g (cell_from (ltb 0 owed && wide (format_of f) g) t b)

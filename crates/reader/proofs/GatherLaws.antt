@@ -45,16 +45,16 @@ module _ (fm : Format) (c : List ℕ) (s : ℕ) where
 -- the wide ones among granules s, .., g - 1 are copied into d from an offset on, over d₀
 pub record Gathering (f : ℕ) (c : List ℕ) (s to at : ℕ) (d₀ d : List ℕ) (g end : ℕ) : Type 0 where
   pub begun : s ≤ g
-  pub within : g ≤ to
+  pub within : g - s ≤ to - s
   pub reached : end ≡ at + length (gathered (format_of f) c s (g - s))
   pub is : d ≡ put at (gathered (format_of f) c s (g - s)) d₀
   pub long : length d ≡ length d₀
 
-pub gathering_none : (f : ℕ) (c : List ℕ) (s to at : ℕ) (d : List ℕ) → s ≤ to → Gathering f c s to at d d s at
+pub gathering_none : (f : ℕ) (c : List ℕ) (s to at : ℕ) (d : List ℕ) → Gathering f c s to at d d s at
 unfolding gathered
-gathering_none f c s to at d h =
+gathering_none f c s to at d =
     let z : s - s ≡ 0 = omega arith in
-    record { begun = omega arith; within = h; reached = rw z (omega arith); is = rw z (sym (put_none at d)); long = refl }
+    record { begun = omega arith; within = omega arith; reached = rw z (omega arith); is = rw z (sym (put_none at d)); long = refl }
 
 module _ (f : ℕ) (c : List ℕ) (s to at : ℕ) (d₀ d : List ℕ) (g end : ℕ) (whole : length c ≡ 256) (inside : to ≤ 12)
     (fits : at + length (gathered (format_of f) c s (to - s)) ≤ length d₀) (h : Gathering f c s to at d₀ d g end) where

@@ -20,7 +20,7 @@ use Rattle.reader.specs.TrackingMirror.{track_of, track_at, marks_of, mark_check
 use Rattle.reader.specs.declared.track.Track.{Track}
 use Rattle.reader.specs.declared.scan.Scan.{Scan}
 use Rattle.reader.proofs.MarkLaws.{groups_of, activations_of}
-use Rattle.reader.proofs.AnswerLaws.{given_fault, given_fine}
+use Rattle.cause.proofs.GivenLaws.{given_fault, given_fine}
 use Rattle.std.specs.Prelude.{Result, Ok, Err}
 
 -- the verdict behind the granules, with the groups' verdict

@@ -9,6 +9,7 @@ pub mod TrackLaws
 pub mod CellLaws
 pub mod MarkLaws
 pub mod ScanLaws
+pub mod FaultLaws
 pub mod JudgeLaws
 pub mod GatherLaws
 pub mod RecordsLaws

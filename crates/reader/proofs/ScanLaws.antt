@@ -16,10 +16,11 @@ use Rattle.cause.specs.declared.Fault.{Fault}
 use Rattle.cause.specs.declared.Cause.TheVariants.{StartInsideMessage, UnknownMessage, PlaceNotAllowed, HeadWrong, UnusedByteNotZero}
 use Rattle.container.specs.Layout.{Format, format_of, wide, granule, msg_start, bit}
 use Rattle.message.specs.Heads.{msg_size}
-use Rattle.placement.specs.Cells.{Cell, owed, cells}
+use Rattle.placement.specs.Cells.{Cell, owed, cells, carry_ok}
+use Rattle.placement.proofs.FirmLaws.{carry_firm}
 use Rattle.placement.specs.Checking.{starting, starts_alone, start_known, start_placed, start_headed, rest_zero, cell_checks, granule_checks}
 use Rattle.placement.proofs.Keeps.{progress, cell_of}
-use Rattle.reader.specs.TrackingMirror.{track_of, track_by, track_after, track_at, mark_of, marks_of, cell_from, cell_answer_of, cell_answer, scanned, Begun}
+use Rattle.reader.specs.TrackingMirror.{track_of, track_by, track_after, track_at, mark_of, marks_of, cell_from, cell_answer_of, cell_answer, scanned}
 use Rattle.reader.specs.declared.track.Track.{Track}
 use Rattle.reader.specs.declared.cell.Granule.{Granule}
 use Rattle.reader.specs.declared.scan.Scan.{Scan}
@@ -131,10 +132,10 @@ scan_starts f c m e = record { within = omega arith; grows = refl; follows = e; 
 
 -- granule g of a container, with what the code found there
 module _ (f : ℕ) (c m : List ℕ) {marks : List ℕ} {track : Track} (g : ℕ) {w : ℕ} {found : Result Granule Cause}
-    (n : length c ≡ 256) (ew : w ≡ msg_start (format_of f) c) (begun : Begun m) (b : g < 12) (i : Scanning f c m marks track g)
+    (n : length c ≡ 256) (ew : w ≡ msg_start (format_of f) c) (ok : carry_ok m ≡ true) (b : g < 12) (i : Scanning f c m marks track g)
     (ef : found ≡ cell_answer (format_of f) g (cell_from (ltb 0 track.owed && wide (format_of f) g) (bit w g) (granule (format_of f) g c))) where
   owes : track.owed ≡ owed (progress (format_of f) c m g)
-  owes = ap (λ (t : Track). t.owed) i.follows ∙ (follows f c m n begun g i.within).owes
+  owes = ap (λ (t : Track). t.owed) i.follows ∙ (follows f c m n (carry_firm m ok).begun g i.within).owes
 
   found_is : found ≡ cell_answer (format_of f) g (cell_of (format_of f) c m g)
   unfolding cell_of

@@ -19,7 +19,7 @@ use Rattle.reader.specs.declared.track.Track.{Track}
 use Rattle.placement.proofs.ProgressLaws.{endings_of}
 use Rattle.reader.proofs.TrackLaws.{Follows, follows, ended_by_law, ending_sized, firm}
 use Rattle.placement.proofs.FirmLaws.{carry_firm}
-use Rattle.reader.proofs.CarryLaws.{ended_room}
+use Rattle.reader.proofs.CarryLaws.{ended_room, ok_valid, valid_ok}
 use Rattle.record.proofs.RecordLaws.{records_append}
 
 -- the messages whose last granules are below g stand as records at the front of the room l, over l₀
@@ -35,7 +35,7 @@ unfolding ended_to track_at
 writing_none f c m l t e = record { within = omega arith; track = e; reached = refl; room = sym (put_none 0 l); long = refl }
 
 module _ (f : ℕ) (c m l₀ l : List ℕ) (t : Track) (at g starts : ℕ) (n : length c ≡ 256) (big : 352 ≤ length l₀) (es : starts ≡ msg_start (format_of f) c)
-    (ok : carry_ok m ≡ true) (few : length m ≤ 100) (h : Writing f c m l₀ l t at g) where
+    (ok : carry_ok m ≡ true) (h : Writing f c m l₀ l t at g) where
   abbrev fm : Format
   fm = format_of f
 
@@ -70,17 +70,18 @@ module _ (f : ℕ) (c m l₀ l : List ℕ) (t : Track) (at g starts : ℕ) (n : 
 
     fits : length before + length here ≤ length l₀
     fits =
+        let few = (valid_ok m (ok_valid m ok)).1 in
         let r = ended_room f c m n (g + 1) (omega arith) in
         let k = ap length next ∙ length-append before here in
         omega arith
 
     -- what the code asks before it writes what ends there
-    pub writing_asks : ((length c ≡ 256) × (t.kept ≤ length m)) × (((t.from ≤ g) × (g < 12)) × (Ending fm c m t g × (at + length here ≤ length l)))
+    pub writing_asks : (t.kept ≤ length m) × (((t.from ≤ g) × (g < 12)) × (Ending fm c m t g × (at + length here ≤ length l)))
     writing_asks =
         let r = h.reached in
         let k = h.long in
         let j = fits in
-        ((n, followed.kept_within), ((followed.from_below, b), (ending_sized f c m g t (progress fm c m g) b n followed granular, omega arith)))
+        (followed.kept_within, ((followed.from_below, b), (ending_sized f c m g t (progress fm c m g) b n followed granular, omega arith)))
 
     pub writing_more : (d : List ℕ) (k : Track) (end : ℕ) → end ≡ at + length here → d ≡ put at here l → k ≡ track_after fm c starts g t
         → Writing f c m l₀ d k end (g + 1)

@@ -3,6 +3,7 @@ ghost use Rattle.std.specs.Prelude.{◌≡◌, true, false, ◌&&◌, ◌<◌, l
 ghost use Rattle.container.specs.Layout.{format_of, wide, bit, granule};
 ghost use Rattle.reader.specs.TrackingMirror.{cell_from, cell_answer, start_mark};
 
+use crate::contents::Contents;
 use cause::Cause;
 use container::{WIDE, locate_granule, measure_granule, starts_at};
 use message::{
@@ -84,20 +85,24 @@ fn goes_on(size: usize, owed: usize) -> bool
     0 < owed && size == WIDE
 }
 
-// Granule g of a container, with so many bytes owed of the message in progress.
-pub(crate) fn judge_cell(
-    format: u32,
-    msgstart: u16,
-    container: &[u8],
-    owed: usize,
-    g: u8,
-) -> Result<Granule, Cause>
-    requires { (length container.now ≡ 256) × (g < 12) }
-    ensures { result ≡ cell_answer (format_of format) g (cell_from (ltb 0 owed && wide (format_of format) g) (bit msgstart g) (granule (format_of format) g container.now)) }
-{
-    let size = measure_granule(format, g);
-    let a = locate_granule(g);
-    let end = a + size;
-    let on = goes_on(size, owed);
-    judge_part(format, g, on, starts_at(msgstart, g), &container[a..end])
+impl Contents<'_> {
+    // Granule g of a container, with so many bytes owed of the message in progress.
+    pub(crate) fn judge_cell(self, owed: usize, g: u8) -> Result<Granule, Cause>
+        requires { g < 12 }
+        ensures { result ≡ cell_answer (format_of self.entry.format) g (cell_from (ltb 0 owed && wide (format_of self.entry.format) g) (bit self.entry.msgstart g) (granule (format_of self.entry.format) g self.entry.container.now)) }
+    {
+        let format = self.format;
+        let container = self.container;
+        let size = measure_granule(format, g);
+        let a = locate_granule(g);
+        let end = a + size;
+        let on = goes_on(size, owed);
+        judge_part(
+            format,
+            g,
+            on,
+            starts_at(self.msgstart, g),
+            &container[a..end],
+        )
+    }
 }

@@ -3,6 +3,7 @@
 
 mod carry;
 mod cell;
+mod contents;
 mod gather;
 mod group;
 mod judge;

@@ -1,16 +1,14 @@
 // The reader: a state by value, and the two ways to hand it a container.
-ghost use Rattle.std.specs.Prelude.{◌≡◌, true, [], length};
-ghost use Rattle.cause.specs.Checks.{first_fault, given};
-ghost use Rattle.container.specs.Layout.{format_of, msg_start};
-ghost use Rattle.container.specs.Grants.{header_grant};
-ghost use Rattle.reader.specs.Reading.{reader_ok, entry_checks, state_checks, reader_with, new_reader, next_reader, reading, read_room, judging};
+ghost use Rattle.std.specs.Prelude.{◌≡◌, [], length, Ok, Err, IfErr, IfOk};
+ghost use Rattle.cause.specs.Checks.{first_fault, Accepted};
+ghost use Rattle.reader.specs.TrackingMirror.{looked};
+ghost use Rattle.reader.specs.Reading.{reader_ok, carried, entry_checks, reader_with, new_reader, next_reader, reading, read_room, judging};
 
 use crate::carry::Carry;
-use crate::gather::gather_carry;
-use crate::judge::judge_container;
-use crate::records::write_endings;
-use cause::{Cause, Fault, Verdict};
-use container::{CONTAINER, FORMATS, Grant, read_grant, read_msgstart};
+use crate::contents::Contents;
+use crate::track::Track;
+use cause::{Cause, Fault};
+use container::{CONTAINER, FORMATS, Grant};
 
 // What is carried, and a format.
 #[derive(Clone, Copy)]
@@ -78,32 +76,32 @@ impl Reader {
         self.format < FORMATS && self.carry.is_valid()
     }
 
-    // The state and the length of a container: causes 19 and 1.
-    fn check_entry(self, size: usize) -> Verdict
-        ensures { result ≡ first_fault (entry_checks self size) }
+    // The contents of a container for a valid reader: causes 19 and 1.
+    fn open<'a>(&'a self, container: &'a [u8]) -> Result<Contents<'a>, Fault>
+        ensures refused { IfErr result (λ fault. first_fault (entry_checks self.now (length container.now)) ≡ Err fault) }
+        ensures opened { IfOk result (λ contents. (contents.format ≡ self.now.format) × (contents.container.now ≡ container.now) × (contents.carry.now ≡ carried self.now)) }
+        ensures valid { IfOk result (λ _. first_fault (entry_checks self.now (length container.now)) ≡ Accepted) }
     {
         if !self.is_valid() {
             return Err(Cause::InvalidState.at(0));
         }
-        if size != CONTAINER {
+        let Some(container) = container.as_array::<CONTAINER>() else {
             return Err(Cause::ContainerLength.at(0));
-        }
-        Ok(())
+        };
+        let carry = &self.carry.bytes[..self.carry.len];
+        Ok(Contents::new(self.format, container, carry))
     }
 
-    // The reader behind a container of 256 bytes, from a valid state, or the container's first fault.
-    fn accept(self, msgstart: u16, grant: Grant, container: &[u8]) -> Result<Reader, Fault>
-        requires valid { (reader_ok self ≡ true) × (length container.now ≡ 256) }
-        requires msgstart { msgstart ≡ msg_start (format_of self.format) container.now }
-        requires grant { grant ≡ header_grant (format_of self.format) container.now }
-        ensures { result ≡ given (first_fault (state_checks self container.now)) (next_reader self container.now) }
+    // The reader behind a container that it opened, with this message in progress.
+    fn carry_on(self, contents: Contents<'_>, track: Track) -> Reader
+        requires opened { (contents.format ≡ self.format) × (contents.carry.now ≡ carried self) }
+        requires judged { Ok track ≡ looked contents.format contents.container.now contents.carry.now }
+        ensures { result ≡ next_reader self contents.entry.container.now }
     {
-        let carry = &self.carry.bytes[..self.carry.len];
-        let track = judge_container(self.format, msgstart, grant, container, carry)?;
-        Ok(Reader {
-            carry: gather_carry(self.format, container, carry, track),
+        Reader {
+            carry: contents.gather_carry(track),
             ..self
-        })
+        }
     }
 
     // A refused judging.
@@ -123,16 +121,18 @@ impl Reader {
     pub fn judge(self, container: &[u8]) -> Judged
         ensures { result ≡ judging self container.now }
     {
-        if let Err(fault) = self.check_entry(container.len()) {
-            return self.refuse_judging(fault);
-        }
-        let msgstart = read_msgstart(self.format, container);
-        let grant = read_grant(self.format, container);
-        match self.accept(msgstart, grant, container) {
+        let contents = match self.open(container) {
+            Err(fault) => return self.refuse_judging(fault),
+            Ok(contents) => contents,
+        };
+        match contents.judge_container() {
             Err(fault) => self.refuse_judging(fault),
-            Ok(reader) => Judged {
-                reader,
-                answer: JudgeAnswer::Accepted { grant, msgstart },
+            Ok(track) => Judged {
+                reader: self.carry_on(contents, track),
+                answer: JudgeAnswer::Accepted {
+                    grant: contents.grant,
+                    msgstart: contents.msgstart,
+                },
             },
         }
     }
@@ -155,24 +155,22 @@ impl Reader {
         ensures step { result ≡ reading self container.now (length room.old) }
         ensures room { room.new ≡ read_room self container.now room.old }
     {
-        if let Err(fault) = self.check_entry(container.len()) {
-            return self.refuse(fault);
-        }
+        let contents = match self.open(container) {
+            Err(fault) => return self.refuse(fault),
+            Ok(contents) => contents,
+        };
         if room.len() < ROOM {
             return self.refuse(Cause::RoomTooSmall.at(0));
         }
-        let msgstart = read_msgstart(self.format, container);
-        let grant = read_grant(self.format, container);
-        match self.accept(msgstart, grant, container) {
+        match contents.judge_container() {
             Err(fault) => self.refuse(fault),
-            Ok(reader) => {
-                let carry = &self.carry.bytes[..self.carry.len];
-                let written = write_endings(self.format, msgstart, container, carry, room);
-                Step {
-                    reader,
-                    answer: Answer::Accepted { written, grant },
-                }
-            }
+            Ok(track) => Step {
+                reader: self.carry_on(contents, track),
+                answer: Answer::Accepted {
+                    written: contents.write_endings(room),
+                    grant: contents.grant,
+                },
+            },
         }
     }
 }

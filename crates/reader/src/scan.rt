@@ -1,9 +1,9 @@
 // The granule pass: each granule judged, its mark kept, the message in progress followed by numbers.
 ghost use Rattle.std.specs.Prelude.{◌≡◌, length};
 ghost use Rattle.container.specs.Layout.{format_of, msg_start};
-ghost use Rattle.reader.specs.TrackingMirror.{scanned, Begun};
+ghost use Rattle.reader.specs.TrackingMirror.{scanned};
 
-use crate::cell::judge_cell;
+use crate::contents::Contents;
 use crate::group::MARKS;
 use crate::track::Track;
 use cause::Fault;
@@ -16,25 +16,19 @@ pub struct Scan {
     pub track: Track,
 }
 
-// All granules of a container, upwards, or the first fault.
-pub(crate) fn scan_granules(
-    format: u32,
-    msgstart: u16,
-    container: &[u8],
-    carry: &[u8],
-) -> Result<Scan, Fault>
-    requires container_len { length container.now ≡ 256 }
-    requires msgstart_value { msgstart ≡ msg_start (format_of format) container.now }
-    requires begun { Begun carry.now }
-    ensures { result ≡ scanned format container.now carry.now }
-{
-    let mut marks = [0u8; MARKS];
-    let mut track = Track::carried(carry);
-    for g in 0..GRANULES {
-        let judged = judge_cell(format, msgstart, container, track.owed, g);
-        let granule = judged.map_err(|cause| cause.at(g as u64))?;
-        marks[g as usize] = granule.mark;
-        track = track.follow(format, g, starts_at(msgstart, g), granule.size);
+impl Contents<'_> {
+    // All granules of a container, upwards, or the first fault.
+    pub(crate) fn scan_granules(self) -> Result<Scan, Fault>
+        ensures { result ≡ scanned self.entry.format self.entry.container.now self.entry.carry.now }
+    {
+        let mut marks = [0u8; MARKS];
+        let mut track = Track::carried(self.carry);
+        for g in 0..GRANULES {
+            let judged = self.judge_cell(track.owed, g);
+            let granule = judged.map_err(|cause| cause.at(g as u64))?;
+            marks[g as usize] = granule.mark;
+            track = track.follow(self.format, g, starts_at(self.msgstart, g), granule.size);
+        }
+        Ok(Scan { marks, track })
     }
-    Ok(Scan { marks, track })
 }

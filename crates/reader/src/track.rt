@@ -1,9 +1,10 @@
 // The message in progress, by numbers.
-ghost use Rattle.std.specs.Prelude.{◌≡◌, ◌<◌, ◌-◌, length};
+ghost use Rattle.std.specs.Prelude.{◌≡◌, ◌<◌, ◌-◌};
 ghost use Rattle.lists.specs.Pick.{pick};
 ghost use Rattle.container.specs.Layout.{format_of, wide};
 ghost use Rattle.reader.specs.TrackingMirror.{track_of, track_by, track_after};
 
+use crate::contents::Contents;
 use container::{WIDE, locate_granule, measure_granule, starts_at};
 use message::measure_message;
 
@@ -73,11 +74,13 @@ impl Track {
     }
 
     // The message in progress after granule g.
-    pub(crate) fn pass(self, format: u32, msgstart: u16, container: &[u8], g: u8) -> Track
-        requires { (length container.now ≡ 256) × (g < 12) }
-        ensures { result ≡ track_after (format_of format) container.now msgstart g self }
+    pub(crate) fn pass(self, contents: Contents<'_>, g: u8) -> Track
+        requires { g < 12 }
+        ensures { result ≡ track_after (format_of contents.entry.format) contents.entry.container.now contents.entry.msgstart g self }
     {
-        if starts_at(msgstart, g) {
+        let format = contents.format;
+        if starts_at(contents.msgstart, g) {
+            let container = contents.container;
             let a = locate_granule(g);
             let end = a + measure_granule(format, g);
             return self.follow(format, g, true, measure_message(&container[a..end]));
