@@ -1,5 +1,5 @@
 -- An accepted fill: answer, next writer and container, as the code makes them; and the verdict of a fill by its answer. Assumes nothing.
-use Prim.Native.Nat.{ℕ, ◌+◌, ◌-◌, ◌%◌, ◌≤◌, ◌<◌}
+use Prim.Native.Nat.{ℕ, ◌+◌, ◌-◌, ◌%◌, ◌≤◌}
 use mathlib.Core.Path.{◌≡◌, refl, sym, ap, ◌∙◌}
 use mathlib.Core.List.{List}
 use native.Mathlib.Omega.{arith}
@@ -60,30 +60,15 @@ module _ (w : Writer) (l : List ℕ) (n : Grant) (c : List ℕ) (long : length w
   tail_length : length t ≡ w.len
   tail_length = length-take-le w.len w.tail (let h = can.valid.short in omega arith)
 
-  pub fill_asks : ((length c ≡ 256) × (length l ≤ 4096)) × ((length t ≤ 100) × (length t % 20 ≡ 0))
-  fill_asks = ((can.whole, can.short), (rw tail_length can.valid.short, rw tail_length can.valid.granules))
-
-  pub plane : n.rp < 8
-  plane = can.plane
+  pub tail_fits : (length t ≤ 100) × (length t % 20 ≡ 0)
+  tail_fits = (rw tail_length can.valid.short, rw tail_length can.valid.granules)
 
   module _ (p : Cursor) (ep : p ≡ cursor_at fm n t l 12) where
-    sane : Sane t l 12 p
-    sane = rw ep (sane_at w.format n t l fill_asks.1.0 fill_asks.1.1 can.short 12 (omega arith))
-
-    pub starts_low : p.msgstart < 4096
-    starts_low = let h = sane.starts_low in omega arith
-
-    pub left_low : p.left ≤ 100
-    left_low = sane.most
-
-    pub from_low : p.from ≤ 4300
-    from_low = sane.start_low
-
-    pub left_within : 0 < p.left → p.from + p.left ≤ length (pick p.tail t l)
-    left_within = sane.within
+    pub sane : Sane t l 12 p
+    sane = rw ep (sane_at w.format n t l tail_fits.0 tail_fits.1 can.short 12 (omega arith))
 
     owes : owed_of t l p ≡ owes_after fm n (tail_of w) l
-    owes = ap (owed_of t l) ep ∙ sym (held_owes w.format n t l fill_asks.1.0 fill_asks.1.1 can.short)
+    owes = ap (owed_of t l) ep ∙ sym (held_owes w.format n t l tail_fits.0 tail_fits.1 can.short)
 
     pub fill_done : (a : List ℕ) → a ≡ pad 100 (owed_of t l p)
         → ◌≡◌ {A = Step} (record { writer = record { format = w.format; tail = a; len = p.left }; answer = answer.Accepted p.at }) (filling w l n (length c))
@@ -92,7 +77,7 @@ module _ (w : Writer) (l : List ℕ) (n : Grant) (c : List ℕ) (long : length w
         let at : a ≡ pad 100 (owes_after fm n (tail_of w) l) = ea ∙ ap (pad 100) owes in
         let len : p.left ≡ length (owes_after fm n (tail_of w) l) = sym (owed_length t l 12 p sane) ∙ ap length owes in
         let used : p.at ≡ used_of fm n (tail_of w) l =
-        ap (λ (x : Cursor). x.at) ep ∙ sym (held_used w.format n t l fill_asks.1.0 fill_asks.1.1 can.short) in
+        ap (λ (x : Cursor). x.at) ep ∙ sym (held_used w.format n t l tail_fits.0 tail_fits.1 can.short) in
         (λ i. record { writer = record { format = w.format; tail = at i; len = len i }; answer = answer.Accepted (used i) })
         ∙ (λ i. record { writer = when_accepted (sym e i) (writer_with w.format (owes_after fm n (tail_of w) l)) w; answer = answer_of (sym e i) (used_of fm n (tail_of w) l) })
 
@@ -101,5 +86,5 @@ module _ (w : Writer) (l : List ℕ) (n : Grant) (c : List ℕ) (long : length w
     bytes_done d x ex ed =
         ed ∙ ap (set_all fm.place 0 (header_bytes n p.msgstart)) ex
         ∙ ap (λ (y : Cursor). set_all fm.place 0 (header_bytes n y.msgstart) (laid_to fm n t l 12)) ep
-        ∙ sym (held_filled w.format n t l fill_asks.1.0 fill_asks.1.1 can.short)
+        ∙ sym (held_filled w.format n t l tail_fits.0 tail_fits.1 can.short)
         ∙ rw e

@@ -1,10 +1,10 @@
 // A granule filled in its own part of the container, and the header written.
-ghost use Rattle.std.specs.Prelude.{◌≡◌, ◌≤◌, ◌<◌, length, get_or};
+ghost use Rattle.std.specs.Prelude.{◌≡◌, ◌≤◌, ◌<◌, length};
 ghost use Rattle.lists.specs.Parts.{put, pad};
 ghost use Rattle.container.specs.Layout.{format_of, start};
 ghost use Rattle.writer.specs.Laying.{header_bytes, set_all};
 
-use container::{Grant, locate_granule, locate_header, measure_granule};
+use container::{CONTAINER, Grant, locate_granule, locate_header, measure_granule};
 
 // The bytes of a protocol header.
 const HEADER: usize = 10;
@@ -20,8 +20,8 @@ fn copy_and_zero(part: &mut [u8], src: &[u8])
 }
 
 // Fills granule g with src and zeros behind it.
-pub(crate) fn fill_granule(container: &mut [u8], format: u32, g: u8, src: &[u8])
-    requires container_len { (length container.old ≡ 256) × (g < 12) }
+pub(crate) fn fill_granule(container: &mut [u8; CONTAINER], format: u32, g: u8, src: &[u8])
+    requires g_bound { g < 12 }
     requires src_len_bound { length src.now ≤ (format_of format).size g }
     ensures { container.new ≡ put (start g) (pad ((format_of format).size g) src.now) container.old }
 {
@@ -32,7 +32,7 @@ pub(crate) fn fill_granule(container: &mut [u8], format: u32, g: u8, src: &[u8])
 
 // The header bytes under a MsgStart and a grant.
 fn form_header(msgstart: u16, grant: Grant) -> [u8; HEADER]
-    requires { (msgstart < 4096) × (grant.rp < 8) }
+    requires { grant.rp < 8 }
     ensures { result ≡ header_bytes grant msgstart }
 {
     let [low, high] = msgstart.to_le_bytes();
@@ -44,9 +44,13 @@ fn form_header(msgstart: u16, grant: Grant) -> [u8; HEADER]
 
 // Writes the header bytes, each at its place.
 #[tactic(auto, using(crate::proofs::HeaderLaws::set_all_more), unfolding(crate::specs::Laying::set_all))]
-pub(crate) fn write_header(container: &mut [u8], format: u32, msgstart: u16, grant: Grant)
-    requires container_len { length container.old ≡ 256 }
-    requires msgstart_bound { (msgstart < 4096) × (grant.rp < 8) }
+pub(crate) fn write_header(
+    container: &mut [u8; CONTAINER],
+    format: u32,
+    msgstart: u16,
+    grant: Grant,
+)
+    requires { grant.rp < 8 }
     ensures { container.new ≡ set_all (format_of format).place 0 (header_bytes grant msgstart) container.old }
 {
     let header = form_header(msgstart, grant);

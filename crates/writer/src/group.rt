@@ -29,7 +29,7 @@ impl Group {
 
     // The group behind the cell of granule g, with so many MiscU and responses starting there.
     pub(crate) fn add(self, g: u8, populated: bool, miscs: u32, responses: u32) -> Group
-        requires { (self.miscs ≤ 1000) × (self.responses ≤ 1000) × (miscs ≤ 1) × (responses ≤ 2) }
+        requires { (self.miscs ≤ 2) × (self.responses ≤ 4) × (miscs ≤ 1) × (responses ≤ 2) }
         ensures { result ≡ group_next g self populated miscs responses }
     {
         if g % 3 == 2 {
@@ -44,17 +44,15 @@ impl Group {
 
     // Whether a message of this type may start behind the cells so far.
     fn takes(self, msgtype: u8) -> bool
-        requires { (self.miscs ≤ 1000) × (self.responses ≤ 1000) }
         ensures { result ≡ (self.full && (leb (self.miscs + miscs_by msgtype) 1 && leb (self.responses + responses_by msgtype) 4)) }
     {
         self.full
-            && self.miscs + count_miscs(msgtype) <= 1
-            && self.responses + count_responses(msgtype) <= 4
+            && self.miscs <= 1 - count_miscs(msgtype)
+            && self.responses <= 4 - count_responses(msgtype)
     }
 
     // Whether a message of this type and op may start at granule g, beside this header grant.
     pub(crate) fn admits(self, format: u32, grant: Grant, g: u8, msgtype: u8, op: u8) -> bool
-        requires { (self.miscs ≤ 1000) × (self.responses ≤ 1000) }
         ensures { result ≡ legal_by (format_of format) grant g self msgtype op }
     {
         may_start(format, g, msgtype, op)
@@ -71,7 +69,6 @@ impl Group {
         msgtype: u8,
         op: u8,
     ) -> bool
-        requires { (self.miscs ≤ 1000) × (self.responses ≤ 1000) }
         ensures { result ≡ beneath_by (format_of format) grant g self msgtype op }
     {
         !is_misc(msgtype, op, ACTIVATION) && self.admits(format, grant, g, msgtype, op)

@@ -4,6 +4,7 @@
 mod cursor;
 mod fill;
 mod group;
+mod input;
 mod writer;
 
 pub use writer::{Answer, Step, Writer};

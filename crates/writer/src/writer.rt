@@ -1,14 +1,14 @@
 // The writer: a state by value that fills lent containers.
-ghost use Rattle.std.specs.Prelude.{◌≡◌, [], ◌&&◌, ◌≤◌, ◌<◌, ◌+◌, length, ltb};
-ghost use Rattle.lists.specs.Pick.{pick};
+ghost use Rattle.std.specs.Prelude.{◌≡◌, [], ◌&&◌, length, ltb};
 ghost use Rattle.lists.specs.Parts.{pad};
 ghost use Rattle.cause.specs.Checks.{first_fault};
 ghost use Rattle.container.specs.Grants.{plane_allowed};
 ghost use Rattle.writer.specs.Filling.{writer_ok, writer_with, new_writer, call_checks, fill_fault, filling, fill_bytes};
-ghost use Rattle.writer.specs.HoldingMirror.{owed_of};
+ghost use Rattle.writer.specs.HoldingMirror.{Sane, owed_of};
 
 use crate::cursor::{Cursor, fill_granules};
 use crate::fill::write_header;
+use crate::input::Input;
 use cause::{Cause, Fault, Verdict};
 use container::{CONTAINER, FORMATS, Grant, WIDE, allows_plane};
 use record::{LONGEST_LIST, check_list};
@@ -48,14 +48,13 @@ fn is_grant(grant: Grant) -> bool
 
 // What is owed behind a container, with zeros behind.
 #[tactic(auto, using(crate::proofs::AnswerLaws::tail_kept))]
-fn keep_tail(cursor: Cursor, tail: &[u8], list: &[u8]) -> [u8; TAIL]
-    requires left_bound { (cursor.left ≤ 100) × (cursor.from ≤ 4300) }
-    requires left_in_bounds { 0 < cursor.left → cursor.from + cursor.left ≤ length (pick cursor.tail tail.now list.now) }
-    ensures { result ≡ pad 100 (owed_of tail.now list.now cursor) }
+fn keep_tail(cursor: Cursor, input: Input<'_>) -> [u8; TAIL]
+    requires { Sane input.tail.now input.list.now 12 cursor }
+    ensures { result ≡ pad 100 (owed_of input.entry.tail.now input.entry.list.now cursor) }
 {
     let mut out = [0u8; TAIL];
     if cursor.left > 0 {
-        let source = cursor.source(tail, list);
+        let source = cursor.source(input);
         copy_into(&mut out, 0, &source[cursor.from..cursor.from + cursor.left]);
     }
     out
@@ -134,12 +133,18 @@ impl Writer {
                 answer: Answer::Refused { cause, place },
             };
         }
-        let tail = &self.tail[..self.len];
-        let cursor = fill_granules(self.format, grant, tail, list, container);
+        let container = container.as_mut_array::<CONTAINER>().unwrap();
+        let input = Input {
+            format: self.format,
+            grant,
+            tail: &self.tail[..self.len],
+            list,
+        };
+        let cursor = fill_granules(input, container);
         write_header(container, self.format, cursor.msgstart, grant);
         Step {
             writer: Writer {
-                tail: keep_tail(cursor, tail, list),
+                tail: keep_tail(cursor, input),
                 len: cursor.left,
                 ..self
             },

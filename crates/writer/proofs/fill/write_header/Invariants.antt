@@ -1,4 +1,3 @@
-use Prim.Native.Nat.{◌-◌}
 use mathlib.Core.Path.{◌≡◌}
 use lib.ListN.{take}
 use Rattle.container.specs.Layout.{format_of}
@@ -7,6 +6,3 @@ use Rattle.writer.proofs.fill.write_header.Given as goal
 
 abbrev pub invariant-loop-i : goal.invariant-loop-i
 invariant-loop-i l = l.container ≡ set_all (format_of l.format).place 0 (take l.i l.header) l.initial.container
-
-abbrev pub decreases-loop-i : goal.decreases-loop-i
-decreases-loop-i l = 10 - l.i

@@ -7,6 +7,6 @@ pub start_message-requires-clause-skip_bound : goal.start_message-requires-claus
 start_message-requires-clause-skip_bound c =
     let f = c.in-Whole in
     let r = c.read_record in
-    let e = found c.args.list.now c.args.self.at r.result (Whole f.start f.end) r.ensures f.is in
-    let w = first_record c.args.list.now c.args.self.at f.start f.end c.requires.miscs_bound.3 e in
+    let e = found c.args.input.list.now c.args.self.at r.result (Whole f.start f.end) r.ensures f.is in
+    let w = first_record c.args.input.list.now c.args.self.at f.start f.end c.requires.sane.used e in
     (w.ten, w.inside)

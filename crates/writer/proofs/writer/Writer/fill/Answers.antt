@@ -4,7 +4,7 @@ use lib.ListN.{length}
 use borrow.Author.Rules.{rules}
 use Rattle.writer.specs.Filling.{fill_fault}
 use Rattle.writer.proofs.StateCases.{Callable, fill_callable}
-use Rattle.writer.proofs.AnswerLaws.{fill_asks, starts_low, left_low, from_low, left_within, fill_done, bytes_done}
+use Rattle.writer.proofs.AnswerLaws.{tail_fits, sane, fill_done, bytes_done}
 use Rattle.writer.proofs.writer.Writer.fill.Goals.{In_default}
 use Rattle.writer.proofs.writer.Writer.fill.Goals as goal
 use Rattle.cause.specs.Checks.{Accepted}
@@ -19,37 +19,29 @@ sound c = sym c.check_fill.ensures ∙ c.in_default.is
 can : (c : In_default) → Callable c.args.self c.args.list.now c.args.grant (length c.args.container.now)
 can c = fill_callable c.args.self c.args.list.now c.args.grant (length c.args.container.now) (sound c)
 
-pub shared_ref_as_front-tail : goal.shared_ref_as_front-tail
-shared_ref_as_front-tail c =
-    let d = (goal.at.shared_ref_as_front-tail c).In_default in
+pub unwrap-container-requires : goal.unwrap-container-requires
+unwrap-container-requires c = c.as_mut_array.ensures.variant.1 (can ((goal.at.unwrap-container-requires c).In_default)).whole
+
+pub shared_ref_as_front-input : goal.shared_ref_as_front-input
+shared_ref_as_front-input c =
+    let d = (goal.at.shared_ref_as_front-input c).In_default in
     omega (arith, long d, (can d).valid.short)
 
-pub fill_granules-cursor-requires : goal.fill_granules-cursor-requires
-fill_granules-cursor-requires c =
-    let d = (goal.at.fill_granules-cursor-requires c).In_default in
-    let both = fill_asks c.args.self c.args.list.now c.args.grant c.args.container.now (long d) (sound d) in
-    record { container_len = both.0; tail_len_bound = both.1 }
+pub invariant_of-input : goal.invariant_of-input
+invariant_of-input c =
+    let d = (goal.at.invariant_of-input c).In_default in
+    record { list_fits = (can d).short; tail_fits = tail_fits c.args.self c.args.list.now c.args.grant c.args.container.now (long d) (sound d) }
 
 pub write_header-requires : goal.write_header-requires
 write_header-requires c =
     let d = (goal.at.write_header-requires c).In_default in
-    let f = c.fill_granules-cursor in
-    record {
-      container_len = f.auto.container ∙ (can d).whole;
-      msgstart_bound = (starts_low c.args.self c.args.list.now c.args.grant c.args.container.now (long d) (sound d) f.result f.ensures.cursor, (can d).plane);
-    }
+    (can d).plane
 
 pub keep_tail-requires : goal.keep_tail-requires
 keep_tail-requires c =
     let d = (goal.at.keep_tail-requires c).In_default in
     let f = c.fill_granules-cursor in
-    record {
-      left_bound = (
-        left_low c.args.self c.args.list.now c.args.grant c.args.container.now (long d) (sound d) f.result f.ensures.cursor,
-        from_low c.args.self c.args.list.now c.args.grant c.args.container.now (long d) (sound d) f.result f.ensures.cursor,
-      );
-      left_in_bounds = left_within c.args.self c.args.list.now c.args.grant c.args.container.now (long d) (sound d) f.result f.ensures.cursor;
-    }
+    sane c.args.self c.args.list.now c.args.grant c.args.container.now (long d) (sound d) f.result f.ensures.cursor
 
 pub returns : goal.returns
 returns c =
