@@ -14,7 +14,7 @@ use Rattle.cause.specs.Checks.{Check, Pass, first_fault, given, Verdict, Accepte
 use Rattle.cause.specs.declared.Cause.{Cause}
 use Rattle.cause.specs.declared.Cause.TheVariants.{InvalidState, ContainerLength}
 use Rattle.cause.specs.declared.Fault.{Fault}
-use Rattle.cause.proofs.GivenLaws.{given_refused}
+use Rattle.cause.proofs.GivenLaws.{given_fault, given_fine}
 use Rattle.cause.proofs.CheckLaws.{accepted_pass}
 use Rattle.std.specs.Prelude.{Result, Ok, Err}
 use Rattle.container.specs.Layout.{format_of, msg_start, header}
@@ -43,15 +43,6 @@ use Rattle.pools.proofs.PassLaws.{stops_before, goes_behind, begun_is, granted_i
 use Rattle.pools.proofs.EntryLaws.{starts_checks_law, starts_pay_law, crdt_checks_law, crdt_gives_law}
 use Rattle.ledger.proofs.ValidLaws.{ledger_valid}
 use Rattle.ledger.proofs.SettleLaws.{skip, paid_row, given_row, settles}
-
--- ---- what is given where a verdict is an acceptance
-
-given_faulty : (v : Verdict) {A : Type 0} (a : A) {f : Fault} → given v a ≡ Err f → v ≡ Err f
-given_faulty v a {f} e = (given_refused a v f.cause f.place).0 e
-
-given_whole : (v : Verdict) {A : Type 0} (a : A) {x : A} → given v a ≡ Ok x → (v ≡ Accepted) × (x ≡ a)
-given_whole (Ok _) a e = (refl, cc)
-given_whole (Err fault) a e = let z : ◌≡◌ {A = ℕ} 0 1 = cc in absurd (omega arith)
 
 -- ---- the pools
 
@@ -208,13 +199,13 @@ module _ (s : Ledger) (d : ℕ) (c : List ℕ) where
         pub begun_refused : {f : Fault} → t ≡ Err f → {x : Step} → x ≡ record { ledger = s; answer = Err f } → x ≡ auditing s d c
         begun_refused e ex =
             audit_refused (entry_accepted ∙ skip state (messages ++ (grants ++ pools)) reads
-            ∙ stops_before messages (grants ++ pools) refl (given_faulty (first_fault messages) (paid_row s d c h) (sym begun_told ∙ e))) ex
+            ∙ stops_before messages (grants ++ pools) refl (given_fault (first_fault messages) (paid_row s d c h) (sym begun_told ∙ e))) ex
 
         -- 21 by the grants
         module _ {paid : List ℕ} (sound : t ≡ Ok paid) {q : Receiver} (eq : q ≡ receiver_of s o) {g : Grant} (eg : g ≡ header_grant (format_of s.format) c)
             {u : Result (List ℕ) Fault} (gives : u ≡ granted_tally q g c w) where
           paid_is : (first_fault messages ≡ Accepted) × (paid ≡ paid_row s d c h)
-          paid_is = given_whole (first_fault messages) (paid_row s d c h) (sym begun_told ∙ sound)
+          paid_is = given_fine (first_fault messages) (paid_row s d c h) (sym begun_told ∙ sound)
 
           begun_pass : Pass messages
           begun_pass = accepted_pass messages paid_is.0
@@ -233,11 +224,11 @@ module _ (s : Ledger) (d : ℕ) (c : List ℕ) where
           pub granted_refused : {f : Fault} → u ≡ Err f → {x : Step} → x ≡ record { ledger = s; answer = Err f } → x ≡ auditing s d c
           granted_refused e ex =
               audit_refused (entry_accepted ∙ skip state (messages ++ (grants ++ pools)) reads ∙ skip messages (grants ++ pools) begun_pass
-              ∙ stops_before grants pools refl (given_faulty (first_fault grants) (given_row s d c h) (sym granted_told ∙ e))) ex
+              ∙ stops_before grants pools refl (given_fault (first_fault grants) (given_row s d c h) (sym granted_told ∙ e))) ex
 
           -- then 15 and 16
           pub audit_settles : {given : List ℕ} → u ≡ Ok given → {next : Carry} → next ≡ (next_reader (reader_of s d) c).carry → {x : Step} → x ≡ settling s d next paid given → x ≡ auditing s d c
           audit_settles {given} e en ex =
-              let whole = given_whole (first_fault grants) (given_row s d c h) (sym granted_told ∙ e) in
+              let whole = given_fine (first_fault grants) (given_row s d c h) (sym granted_told ∙ e) in
               ex ∙ (λ i. settling s d (en i) (paid_is.1 i) (whole.1 i))
               ∙ sym (settles s d c h v n reads begun_pass (accepted_pass grants whole.0))

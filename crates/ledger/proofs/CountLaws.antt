@@ -46,12 +46,12 @@ module _ (held opened paid capacities : List ℕ) where
   row_tests = record { none = λ p. refl; more = λ k p. refl }
 
   -- the test as the code makes it: open against paid first
-  pub unpaid : (p : ℕ) {s : Bool} → s ≡ eqb (get_or opened p 0) (get_or paid p 0) → not s ≡ true → false ≡ kept p
-  unpaid p {s} es d = rw (sym es ∙ not_so s d)
+  pub unpaid : (p : ℕ) {d : Bool} → d ≡ not (eqb (get_or opened p 0) (get_or paid p 0)) → d ≡ true → false ≡ kept p
+  unpaid p ed e = rw (not_so (eqb (get_or opened p 0) (get_or paid p 0)) (sym ed ∙ e))
 
-  pub paid_fits : (p : ℕ) {s : Bool} → s ≡ eqb (get_or opened p 0) (get_or paid p 0) → not s ≡ false → {t : Bool}
+  pub paid_fits : (p : ℕ) {d : Bool} → d ≡ not (eqb (get_or opened p 0) (get_or paid p 0)) → d ≡ false → {t : Bool}
       → t ≡ leb (get_or held p 0 + (0 + get_or opened p 0)) (get_or capacities p 0) → t ≡ kept p
-  paid_fits p {s} es e et = et ∙ rw (zero-add (get_or opened p 0), sym es ∙ so s e)
+  paid_fits p ed e et = et ∙ rw (zero-add (get_or opened p 0), so (eqb (get_or opened p 0) (get_or paid p 0)) (sym ed ∙ e))
 
 -- credits that a count holds
 pub raised_is : (a b : ℕ) → a + b < 2 ^ 32 → {w : Credits} → w ≡ record { 0 = min (a + b) 4294967295 } → w ≡ record { 0 = a + b }

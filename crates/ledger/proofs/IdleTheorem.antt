@@ -226,7 +226,9 @@ module _ (s : Ledger) (d : ℕ) (c : List ℕ) (b : d < 2) (ok : ledger_ok s ≡
             opened = opened i;
           }
 
-pub idle_accepted : (s : Ledger) (d : ℕ) (c : List ℕ) → d < 2 → ledger_ok s ≡ true → length c ≡ 256 → length s.carry0.bytes ≡ 100 → length s.carry1.bytes ≡ 100
+pub idle_accepted : (s : Ledger) (d : ℕ) (c : List ℕ) → d < 2 → ledger_ok s ≡ true → length s.carry0.bytes ≡ 100 → length s.carry1.bytes ≡ 100
     → length s.held ≡ 28 → length s.opened ≡ 28 → idle_entry s d c ≡ true → auditing s d c ≡ record { ledger = s; answer = Accepted }
 unfolding auditing
-idle_accepted s d c b ok n n0 n1 nh nw e = rw (pass_accepted (audit_checks s d c) (audit_pass s d c b ok n e), ledger_kept s d c b ok n e n0 n1 nh nw)
+idle_accepted s d c b ok n0 n1 nh nw e =
+    let n = eqb-true (length c) 256 (and_left (eqb (length c) 256) (idle_from (format_of s.format).link c 0) (and_right (eqb (reader_of s d).carry.len 0) (idle (format_of s.format) c) e)) in
+    rw (pass_accepted (audit_checks s d c) (audit_pass s d c b ok n e), ledger_kept s d c b ok n e n0 n1 nh nw)

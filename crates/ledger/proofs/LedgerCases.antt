@@ -1,11 +1,10 @@
 -- The tests of a ledger as the code makes them, part by part. Assumes nothing.
 use Prim.Native.Nat.{ℕ, zero, suc, ◌+◌, ◌%◌, ◌≤◌, ◌<◌}
 use mathlib.Core.Path.{◌≡◌, refl, sym, ap, ◌∙◌}
-use mathlib.Core.Bool.{Bool, true, false, ◌&&◌, not}
+use mathlib.Core.Bool.{Bool, true, false, ◌&&◌}
 use mathlib.Core.List.{List, []}
 use native.Mathlib.Omega.{arith}
 use lib.ListN.{get_or}
-use borrow.Author.Tests.{not-true, not-false}
 use Rattle.message.specs.Charges.{charges}
 use Rattle.reader.specs.Reading.{reader_ok, carried}
 use Rattle.reader.specs.declared.reader.Reader.{Reader}
@@ -18,13 +17,9 @@ use Rattle.ledger.specs.declared.ledger.Ledger.{Ledger}
 use Rattle.pools.proofs.RowLaws.{row_at}
 use Rattle.ledger.proofs.SettleLaws.{nested_entry}
 
--- a test behind another
-module _ (a b : Bool) {t : Bool} (e : t ≡ a) where
-  pub first_fails : t ≡ false → false ≡ (a && b)
-  first_fails f = sym (ap (λ (x : Bool). x && b) (sym e ∙ f))
-
-  pub second_decides : t ≡ true → {u : Bool} → u ≡ b → u ≡ (a && b)
-  second_decides f g = g ∙ sym (ap (λ (x : Bool). x && b) (sym e ∙ f))
+-- a test behind another that holds
+second_decides : (a b : Bool) {t u : Bool} → t ≡ a → t ≡ true → u ≡ b → u ≡ (a && b)
+second_decides a b e f g = g ∙ sym (ap (λ (x : Bool). x && b) (sym e ∙ f))
 
 -- whether the pools of what is carried exist, by its first two bytes
 module _ (s : Ledger) (d : ℕ) {r : Receiver} (er : r ≡ receiver_of s d) {m : List ℕ} (em : m ≡ carried (reader_of s d)) {x y : ℕ} (ex : x ≡ get_or m 0 0) (ey : y ≡ get_or m 1 0)
@@ -32,11 +27,8 @@ module _ (s : Ledger) (d : ℕ) {r : Receiver} (er : r ≡ receiver_of s d) {m :
   carry_payable : t ≡ payable (receiver_of s d) (carried (reader_of s d))
   carry_payable = et ∙ (λ i. payable_by r (ex i % 16) (ex i) (ey i)) ∙ (λ i. payable (er i) (em i))
 
-  pub carry_refused : not t ≡ true → false ≡ pooled s d
-  carry_refused n = first_fails (payable (receiver_of s d) (carried (reader_of s d))) (pools_ok s d 14 0) carry_payable (not-true t n)
-
-  pub pools_decide : not t ≡ false → {u : Bool} → u ≡ pools_ok s d 14 0 → u ≡ pooled s d
-  pools_decide n eu = second_decides (payable (receiver_of s d) (carried (reader_of s d))) (pools_ok s d 14 0) carry_payable (not-false t n) eu
+  pub pools_decide : t ≡ true → {u : Bool} → u ≡ pools_ok s d 14 0 → u ≡ pooled s d
+  pools_decide e eu = second_decides (payable (receiver_of s d) (carried (reader_of s d))) (pools_ok s d 14 0) carry_payable e eu
 
 -- the pools of a direction by its rows
 module _ (s : Ledger) (d : ℕ) (h : d < 2) where
@@ -55,18 +47,13 @@ module _ (s : Ledger) (d : ℕ) (h : d < 2) where
   counts_pools eh eo em ep er et =
       et ∙ (λ i. rows_ok (get_or (eh i) d []) (get_or (eo i) d []) ((ep ∙ ap carried_row em) i) (er i).capacities 14 0) ∙ rows_pools 14 0 (omega arith)
 
--- a direction: its receiver, its reader, its pools
-module _ (s : Ledger) (d : ℕ) {r : Receiver} (er : r ≡ receiver_of s d) {t : Bool} (et : t ≡ receiver_ok r) where
-  pub receiver_fails : not t ≡ true → false ≡ direction_ok s d
-  receiver_fails n = first_fails (receiver_ok (receiver_of s d)) (reader_ok (reader_of s d) && pooled s d) (et ∙ ap receiver_ok er) (not-true t n)
+-- a direction whose receiver is valid, by its reader and its pools
+module _ (s : Ledger) (d : ℕ) {r : Receiver} (er : r ≡ receiver_of s d) {t : Bool} (et : t ≡ receiver_ok r) (valid : t ≡ true) {q : Reader} (eq : q ≡ reader_of s d) {u : Bool} (eu : u ≡ reader_ok q) where
+  behind_receiver : {w : Bool} → w ≡ (reader_ok (reader_of s d) && pooled s d) → w ≡ direction_ok s d
+  behind_receiver = second_decides (receiver_ok (receiver_of s d)) (reader_ok (reader_of s d) && pooled s d) (et ∙ ap receiver_ok er) valid
 
-  module _ (n : not t ≡ false) {q : Reader} (eq : q ≡ reader_of s d) {u : Bool} (eu : u ≡ reader_ok q) where
-    pub reader_fails : not u ≡ true → false ≡ direction_ok s d
-    reader_fails m =
-        second_decides (receiver_ok (receiver_of s d)) (reader_ok (reader_of s d) && pooled s d) (et ∙ ap receiver_ok er) (not-false t n)
-        (first_fails (reader_ok (reader_of s d)) (pooled s d) (eu ∙ ap reader_ok eq) (not-true u m))
+  pub reader_fails : u ≡ false → u ≡ direction_ok s d
+  reader_fails e = behind_receiver (e ∙ sym (ap (λ (x : Bool). x && pooled s d) (sym (eu ∙ ap reader_ok eq) ∙ e)))
 
-    pub direction_decides : not u ≡ false → {w : Bool} → w ≡ pooled s d → w ≡ direction_ok s d
-    direction_decides m ew =
-        second_decides (receiver_ok (receiver_of s d)) (reader_ok (reader_of s d) && pooled s d) (et ∙ ap receiver_ok er) (not-false t n)
-        (second_decides (reader_ok (reader_of s d)) (pooled s d) (eu ∙ ap reader_ok eq) (not-false u m) ew)
+  pub direction_decides : u ≡ true → {w : Bool} → w ≡ pooled s d → w ≡ direction_ok s d
+  direction_decides e ew = behind_receiver (second_decides (reader_ok (reader_of s d)) (pooled s d) (eu ∙ ap reader_ok eq) e ew)

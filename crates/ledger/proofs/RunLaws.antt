@@ -4,7 +4,7 @@ use mathlib.Core.Path.{◌≡◌, refl, sym, ap, subst, ◌∙◌}
 use mathlib.Core.Bool.{true}
 use mathlib.Core.List.{List}
 use native.Mathlib.Omega.{arith}
-use lib.ListN.{length, take, drop, length-take, length-drop}
+use lib.ListN.{length, take, drop, length-drop}
 use Rattle.lists.specs.Parts.{part}
 use Rattle.lists.proofs.PickLaws.{pick_both}
 use Rattle.lists.proofs.PartLaws.{rest_is}
@@ -185,5 +185,5 @@ framed_here l at e h = sym (ap framing (rest_is l at)) ∙ sym e ∙ h
 pub entry_is : (s : Ledger) (l : List ℕ) (at d u : ℕ) {t : Step} → t ≡ auditing s d (take ((at + u + 256) - (at + u)) (drop (at + u) l)) → t ≡ step_at s at l d u
 entry_is s l at d u e = let k : (at + u + 256) - (at + u) ≡ 256 = omega arith in e ∙ ap (λ (n : ℕ). auditing s d (take n (drop (at + u) l))) k
 
-pub entry_long : (l : List ℕ) (begin : ℕ) → begin + 256 ≤ length l → length (take ((begin + 256) - begin) (drop begin l)) ≡ 256
-entry_long l begin h = simp (length-take, length-drop) (omega arith)
+pub front_is : (s : Ledger) (l : List ℕ) (at d u : ℕ) {x : List ℕ} → x ≡ take 256 (take (length l - (at + u)) (drop (at + u) l)) → {t : Step} → t ≡ auditing s d x → t ≡ step_at s at l d u
+front_is s l at d u ex e = e ∙ ap (auditing s d) (ex ∙ ap (take 256) (rest_is l (at + u)))

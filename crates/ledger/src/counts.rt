@@ -54,7 +54,7 @@ pub(crate) fn keeps_counts(
 {
     for p in 0..ROW {
         let messages = Slots(opened[direction][p]);
-        if !messages.equal(Slots(paid[p])) {
+        if messages != Slots(paid[p]) {
             return false;
         }
         let credits = Credits(held[direction][p]);

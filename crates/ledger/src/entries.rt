@@ -3,6 +3,7 @@ ghost use Rattle.std.specs.Prelude.{◌≡◌, true};
 ghost use Rattle.ledger.specs.Audit.{ledger_ok};
 ghost use Rattle.ledger.specs.Run.{halted, running, run_over};
 
+use crate::entry::Entry;
 use crate::ledger::Ledger;
 use cause::{Cause, Verdict};
 use container::CONTAINER;
@@ -17,15 +18,17 @@ pub struct Run {
     pub answer: Verdict,
 }
 
-// A run that stops behind so many accepted entries and bytes.
-fn stop_run(ledger: Ledger, accepted: u32, used: usize, answer: Verdict) -> Run
-    ensures { result ≡ halted ledger accepted used answer }
-{
-    Run {
-        ledger: ledger,
-        accepted: accepted,
-        used: used,
-        answer: answer,
+impl Run {
+    // A run that stops behind so many accepted entries and bytes.
+    pub fn stop(ledger: Ledger, accepted: u32, used: usize, answer: Verdict) -> Run
+        ensures { result ≡ halted ledger accepted used answer }
+    {
+        Run {
+            ledger,
+            accepted,
+            used,
+            answer,
+        }
     }
 }
 
@@ -35,31 +38,31 @@ fn audit_framed(ledger: Ledger, bytes: &[u8], limit: u32) -> Run
     ensures { result ≡ running limit ledger 0 0 bytes.now }
 {
     let mut state = ledger;
-    let mut count: u32 = 0;
     let mut at: usize = 0;
-    while count < limit {
+    for count in 0..limit {
         let Framed::Whole {
             number: _,
             direction,
             start,
         } = frame_entry(&bytes[at..])
         else {
-            return stop_run(state, count, at, Ok(()));
+            return Run::stop(state, count, at, Ok(()));
         };
         let begin = at + start;
-        let end = begin + CONTAINER;
-        if !state.is_entry_idle(direction, &bytes[begin..end]) {
-            let step = state.audit_contents(direction, &bytes[begin..end]);
-            let answer = step.answer;
+        let entry = Entry {
+            direction,
+            container: bytes[begin..].first_chunk::<CONTAINER>().unwrap(),
+        };
+        if !state.is_entry_idle(entry) {
+            let step = state.audit_contents(entry);
             state = step.ledger;
-            if let Err(fault) = answer {
-                return stop_run(state, count, at, Err(fault));
+            if let Err(fault) = step.answer {
+                return Run::stop(state, count, at, Err(fault));
             }
         }
-        count += 1;
-        at = end;
+        at = begin + CONTAINER;
     }
-    stop_run(state, count, at, Ok(()))
+    Run::stop(state, limit, at, Ok(()))
 }
 
 impl Ledger {
@@ -71,6 +74,6 @@ impl Ledger {
         if self.is_valid() {
             return audit_framed(self, bytes, limit);
         }
-        stop_run(self, 0, 0, Err(Cause::InvalidState.at(0)))
+        Run::stop(self, 0, 0, Err(Cause::InvalidState.at(0)))
     }
 }

@@ -9,6 +9,7 @@ ghost use Rattle.ledger.specs.Audit.{receiver_of, reader_of, direction_ok, ledge
 ghost use Rattle.ledger.specs.CountingMirror.{pooled, idle_entry, settling, entered};
 
 use crate::counts::{judge_begun, judge_granted, keeps_counts, settle_held, settle_opened};
+use crate::entry::Entry;
 use cause::{Cause, Fault, Verdict};
 use container::{CONTAINER, FORMATS, Grant, is_idle};
 use pools::{
@@ -49,13 +50,7 @@ pub struct Report {
 fn is_configured(format: u32, receiver0: Receiver, receiver1: Receiver) -> bool
     ensures { result ≡ configured format receiver0 receiver1 }
 {
-    if FORMATS <= format {
-        return false;
-    }
-    if receiver0.is_valid() {
-        return receiver1.is_valid();
-    }
-    false
+    format < FORMATS && receiver0.is_valid() && receiver1.is_valid()
 }
 
 impl Ledger {
@@ -65,9 +60,9 @@ impl Ledger {
     {
         let none = Carry::none();
         Ledger {
-            format: format,
-            receiver0: receiver0,
-            receiver1: receiver1,
+            format,
+            receiver0,
+            receiver1,
             carry0: none,
             carry1: none,
             held: [0u32; TABLE],
@@ -100,15 +95,13 @@ impl Ledger {
         ensures { result ≡ reader_of self direction }
     {
         if direction == 0 {
-            let carry = self.carry0;
             return Reader {
-                carry: carry,
+                carry: self.carry0,
                 format: self.format,
             };
         }
-        let carry = self.carry1;
         Reader {
-            carry: carry,
+            carry: self.carry1,
             format: self.format,
         }
     }
@@ -121,19 +114,14 @@ impl Ledger {
     {
         let byte0 = byte_at(carry, 0);
         let byte1 = byte_at(carry, 1);
-        if !receiver.is_payable(byte0 % 16, byte0, byte1) {
-            return false;
-        }
-        let held = self.held;
-        let opened = self.opened;
-        let capacities = receiver.capacities;
-        keeps_counts(
-            nest(held),
-            nest(opened),
-            direction,
-            count_carry(carry),
-            capacities,
-        )
+        receiver.is_payable(byte0 % 16, byte0, byte1)
+            && keeps_counts(
+                nest(self.held),
+                nest(self.opened),
+                direction,
+                count_carry(carry),
+                receiver.capacities,
+            )
     }
 
     // Whether a direction is valid: its receiver, its carry, and its pools.
@@ -146,41 +134,33 @@ impl Ledger {
             return false;
         }
         let reader = self.choose_reader(direction);
-        if !reader.is_valid() {
-            return false;
-        }
         let bytes = reader.carry.bytes;
         let len = reader.carry.len;
-        self.keeps_pools(direction, receiver, &bytes[0..len])
+        reader.is_valid() && self.keeps_pools(direction, receiver, &bytes[0..len])
     }
 
     // Whether the ledger is valid.
     pub(crate) fn is_valid(self) -> bool
         ensures { result ≡ ledger_ok self }
     {
-        if self.is_direction_valid(0) {
-            return self.is_direction_valid(1);
-        }
-        false
+        self.is_direction_valid(0) && self.is_direction_valid(1)
     }
 
     // Whether an entry is idle: nothing is carried in its direction, and it has nothing but zeros outside the link header. A valid ledger
     // accepts it and stays as it is.
-    pub(crate) fn is_entry_idle(self, direction: usize, container: &[u8]) -> bool
-        requires { (direction < 2) × (ledger_ok self ≡ true) × (length container.now ≡ 256) }
-        ensures value { result ≡ idle_entry self direction container.now }
-        ensures self_value { result ≡ true → unchanged self ≡ auditing self direction container.now }
+    pub(crate) fn is_entry_idle(self, entry: Entry<'_>) -> bool
+        requires { ledger_ok self ≡ true }
+        ensures value { result ≡ idle_entry self entry.entry.direction entry.entry.container.now }
+        ensures self_value { result ≡ true → unchanged self ≡ auditing self entry.entry.direction entry.entry.container.now }
     {
+        let Entry {
+            direction,
+            container,
+        } = entry;
         if direction == 0 {
-            if self.carry0.len != 0 {
-                return false;
-            }
-            return is_idle(self.format, container);
+            return self.carry0.len == 0 && is_idle(self.format, container);
         }
-        if self.carry1.len != 0 {
-            return false;
-        }
-        is_idle(self.format, container)
+        self.carry1.len == 0 && is_idle(self.format, container)
     }
 
     // A refused entry.
@@ -190,29 +170,6 @@ impl Ledger {
         Step {
             ledger: self,
             answer: Err(fault),
-        }
-    }
-
-    // The ledger with other carries and counts.
-    fn renew(
-        self,
-        carry0: Carry,
-        carry1: Carry,
-        held: [[u32; ROW]; 2],
-        opened: [[u32; ROW]; 2],
-    ) -> Ledger
-        ensures { result ≡ record { format = self.format; receiver0 = self.receiver0; receiver1 = self.receiver1; carry0 = carry0; carry1 = carry1; held = flattened held; opened = flattened opened } }
-    {
-        let receiver0 = self.receiver0;
-        let receiver1 = self.receiver1;
-        Ledger {
-            format: self.format,
-            receiver0: receiver0,
-            receiver1: receiver1,
-            carry0: carry0,
-            carry1: carry1,
-            held: flatten(held),
-            opened: flatten(opened),
         }
     }
 
@@ -226,12 +183,22 @@ impl Ledger {
     ) -> Ledger
         ensures { result ≡ entered self direction next (flattened held) (flattened opened) }
     {
+        let held = flatten(held);
+        let opened = flatten(opened);
         if direction == 0 {
-            let carry1 = self.carry1;
-            return self.renew(next, carry1, held, opened);
+            return Ledger {
+                carry0: next,
+                held,
+                opened,
+                ..self
+            };
         }
-        let carry0 = self.carry0;
-        self.renew(carry0, next, held, opened)
+        Ledger {
+            carry1: next,
+            held,
+            opened,
+            ..self
+        }
     }
 
     // 15 and 16 by what the entry began and granted, and the ledger behind it.
@@ -239,16 +206,13 @@ impl Ledger {
         requires { (direction < 2) × (next.len ≤ 100) }
         ensures { result ≡ settling self direction next begun granted }
     {
-        let credits = self.held;
-        let held = nest(credits);
+        let held = nest(self.held);
         if let Err(fault) = judge_begun(held, direction, begun) {
             return self.refuse(fault);
         }
-        let messages = self.opened;
-        let opened = nest(messages);
+        let opened = nest(self.opened);
         let other = 1 - direction;
-        let receiver = self.choose_receiver(other);
-        let capacities = receiver.capacities;
+        let capacities = self.choose_receiver(other).capacities;
         if let Err(fault) = judge_granted(held, opened, other, granted, capacities) {
             return self.refuse(fault);
         }
@@ -264,20 +228,17 @@ impl Ledger {
     }
 
     // An entry that reads: 14 by its messages and 21 by its grants, then its pools.
-    fn audit_read(
-        self,
-        direction: usize,
-        container: &[u8],
-        next: Carry,
-        grant: Grant,
-        msgstart: u16,
-    ) -> Step
-        requires direction_bound { (direction < 2) × (ledger_ok self ≡ true) × (length container.now ≡ 256) }
-        requires container_value { first_fault (judge_checks (reader_of self direction) container.now) ≡ Accepted }
-        requires next_value { next ≡ (next_reader (reader_of self direction) container.now).carry }
-        requires grant_value { (grant ≡ header_grant (format_of self.format) container.now) × (msgstart ≡ msg_start (format_of self.format) container.now) }
-        ensures { result ≡ auditing self direction container.now }
+    fn audit_read(self, entry: Entry<'_>, next: Carry, grant: Grant, msgstart: u16) -> Step
+        requires valid { ledger_ok self ≡ true }
+        requires container_value { first_fault (judge_checks (reader_of self entry.direction) entry.container.now) ≡ Accepted }
+        requires next_value { next ≡ (next_reader (reader_of self entry.direction) entry.container.now).carry }
+        requires grant_value { (grant ≡ header_grant (format_of self.format) entry.container.now) × (msgstart ≡ msg_start (format_of self.format) entry.container.now) }
+        ensures { result ≡ auditing self entry.entry.direction entry.entry.container.now }
     {
+        let Entry {
+            direction,
+            container,
+        } = entry;
         let begun = match tally_begun(self.choose_receiver(direction), msgstart, container) {
             Ok(counts) => counts,
             Err(fault) => return self.refuse(fault),
@@ -290,44 +251,40 @@ impl Ledger {
         self.settle(direction, next, begun, granted)
     }
 
-    // An entry of 256 bytes by what it holds, from a valid ledger.
-    pub(crate) fn audit_contents(self, direction: usize, container: &[u8]) -> Step
-        requires { (direction < 2) × (ledger_ok self ≡ true) × (length container.now ≡ 256) }
-        ensures { result ≡ auditing self direction container.now }
+    // An entry by what it holds, from a valid ledger.
+    pub(crate) fn audit_contents(self, entry: Entry<'_>) -> Step
+        requires { ledger_ok self ≡ true }
+        ensures { result ≡ auditing self entry.entry.direction entry.entry.container.now }
     {
-        let judged = self.choose_reader(direction).judge(container);
-        let answer = judged.answer;
-        match answer {
+        let container = entry.container;
+        let judged = self.choose_reader(entry.direction).judge(container);
+        match judged.answer {
             JudgeAnswer::Refused { cause, place } => self.refuse(cause.at(place)),
             JudgeAnswer::Accepted { grant, msgstart } => {
-                let next = judged.reader.carry;
-                self.audit_read(direction, container, next, grant, msgstart)
+                self.audit_read(entry, judged.reader.carry, grant, msgstart)
             }
         }
     }
 
-    // An entry of 256 bytes, from a valid ledger: what is idle is accepted as it is.
-    pub(crate) fn audit_valid(self, direction: usize, container: &[u8]) -> Step
-        requires { (direction < 2) × (ledger_ok self ≡ true) × (length container.now ≡ 256) }
-        ensures { result ≡ auditing self direction container.now }
+    // An entry, from a valid ledger: what is idle is accepted as it is.
+    pub(crate) fn audit_valid(self, entry: Entry<'_>) -> Step
+        requires { ledger_ok self ≡ true }
+        ensures { result ≡ auditing self entry.entry.direction entry.entry.container.now }
     {
-        if self.is_entry_idle(direction, container) {
+        if self.is_entry_idle(entry) {
             return Step {
                 ledger: self,
                 answer: Ok(()),
             };
         }
-        self.audit_contents(direction, container)
+        self.audit_contents(entry)
     }
 
     // Whether a direction is one and the ledger is valid.
     fn admits(self, direction: u32) -> bool
         ensures { result ≡ (ltb direction 2 && ledger_ok self) }
     {
-        if direction < 2 {
-            return self.is_valid();
-        }
-        false
+        direction < 2 && self.is_valid()
     }
 
     // Audits an entry: a container of a direction.
@@ -337,10 +294,13 @@ impl Ledger {
         if !self.admits(direction) {
             return self.refuse(Cause::InvalidState.at(0));
         }
-        if container.len() != CONTAINER {
+        let Ok(container) = <&[u8; CONTAINER]>::try_from(container) else {
             return self.refuse(Cause::ContainerLength.at(0));
-        }
-        self.audit_valid(direction as usize, container)
+        };
+        self.audit_valid(Entry {
+            direction: direction as usize,
+            container,
+        })
     }
 
     // The credits held and the slots of open messages, of a direction and pool.
@@ -361,12 +321,6 @@ impl Ledger {
     fn tells(self, direction: u32, pool: u32) -> bool
         ensures { result ≡ (ltb direction 2 && (ltb pool 14 && ledger_ok self)) }
     {
-        if 2 <= direction {
-            return false;
-        }
-        if POOLS <= pool {
-            return false;
-        }
-        self.is_valid()
+        direction < 2 && pool < POOLS && self.is_valid()
     }
 }

@@ -3,6 +3,7 @@
 
 mod counts;
 mod entries;
+mod entry;
 mod ledger;
 
 pub use entries::Run;

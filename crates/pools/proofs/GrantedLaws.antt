@@ -129,21 +129,21 @@ module _ (n : Grant) (l : List ℕ) (counts : Counts 65535 l) (b : Bytes n) (pla
     counts₁ : Counts (65535 + 255) d₁
     counts₁ = counts_one q n.req 255 counts b.req e₁
 
-    pub add_rsp : ((length d₁ ≡ 14) × (9 < 14)) × (get_or d₁ 9 0 + n.rsp < 2 ^ 32)
+    pub add_rsp : (9 < 14) × (get_or d₁ 9 0 + n.rsp < 2 ^ 32)
     add_rsp = one_fits 9 n.rsp counts₁ (omega arith) (omega (arith, b.rsp))
 
     module _ {d₂ : List ℕ} (e₂ : d₂ ≡ raised (one_more 9 n.rsp) d₁) where
       counts₂ : Counts (65790 + 255) d₂
       counts₂ = counts_one 9 n.rsp 255 counts₁ b.rsp e₂
 
-      pub add_snp : ((length d₂ ≡ 14) × (10 < 14)) × (get_or d₂ 10 0 + n.snp < 2 ^ 32)
+      pub add_snp : (10 < 14) × (get_or d₂ 10 0 + n.snp < 2 ^ 32)
       add_snp = one_fits 10 n.snp counts₂ (omega arith) (omega (arith, b.snp))
 
       module _ {d₃ : List ℕ} (e₃ : d₃ ≡ raised (one_more 10 n.snp) d₂) {k : ℕ} (ek : k ≡ dat_of n) where
         counts₃ : Counts (66045 + 255) d₃
         counts₃ = counts_one 10 n.snp 255 counts₂ b.snp e₃
 
-        pub add_dat : ((length d₃ ≡ 14) × (k < 14)) × (get_or d₃ k 0 + n.dat < 2 ^ 32)
+        pub add_dat : (k < 14) × (get_or d₃ k 0 + n.dat < 2 ^ 32)
         add_dat =
             one_fits k n.dat counts₃
             (rw ek (pick_both (λ (x : ℕ). x < 14) n.shc (omega arith) (pick_both (λ (x : ℕ). x < 14) (eqb n.rp 0) (omega arith) (omega arith))))

@@ -7,23 +7,17 @@ use lib.ListN.{length, get_or}
 use borrow.Author.Tests.{eq-eqb, lt-ltb}
 use Rattle.std.specs.Prelude.{Ok, Err}
 use Rattle.cause.specs.Causes.{header_place}
-use Rattle.cause.specs.Checks.{Check, first_fault, or_else, given, Verdict, Accepted}
+use Rattle.cause.specs.Checks.{Check, first_fault, or_else, Verdict, Accepted}
 use Rattle.cause.specs.declared.Fault.{Fault}
 use Rattle.container.specs.declared.grant.Grant.{Grant}
 use Rattle.cause.proofs.CheckLaws.{first_append}
+use Rattle.cause.proofs.GivenLaws.{fault_given, fine_given}
 use Rattle.pools.specs.Rows.{raised, row}
 use Rattle.pools.specs.TalliesMirror.{starts_checks, starts_pay, grant_check, crdt_checks}
 use Rattle.pools.specs.Tallies.{tally_of, begun_tally, grants_give, granted_tally}
 use Rattle.pools.specs.declared.receiver.Receiver.{Receiver}
 use Rattle.pools.proofs.RowLaws.{row_same, row_equal}
 use Rattle.pools.proofs.TallyLaws.{raised_at, Counts, counts_raised}
-
--- the fault of a verdict, and what is counted where it is sound
-pub given_fault : {v : Verdict} {e : Fault} → v ≡ Err e → {A : Type 0} (a : A) → Err e ≡ given v a
-given_fault h a = rw h
-
-pub given_sound : {v : Verdict} → v ≡ Accepted → {A : Type 0} (a : A) → Ok a ≡ given v a
-given_sound h a = rw h
 
 -- checks behind others: the first list's fault is the fault of both, and the second list's counts where the first is sound
 module _ (a b : List Check) {v : Verdict} (u : v ≡ first_fault a) where
@@ -63,7 +57,7 @@ module _ {w : Walk} (x : Walks w) {checks : List Check} {total : ℕ → ℕ} {c
       let e : g ≡ 12 = let k = i.within in omega arith in
       let j : Walking w checks total counts 12 = rw e at i in
       let c : counts ≡ row total 14 0 = row_same total counts j.few.long (λ p b. omega (arith, j.sums p b, x.no_gains 12 p)) in
-      ap Ok c ∙ given_sound (j.same ∙ ap first_fault (x.no_checks 12)) (row total 14 0)
+      ap Ok c ∙ fine_given (j.same ∙ ap first_fault (x.no_checks 12)) (row total 14 0)
 
   -- one granule
   module _ (b : g < 12) where
@@ -74,7 +68,7 @@ module _ {w : Walk} (x : Walks w) {checks : List Check} {total : ℕ → ℕ} {c
     next = i.same ∙ ap (λ (k : ℕ). first_fault (w.rest k g)) one_less ∙ ap first_fault (x.next_checks (12 - (g + 1)) g)
 
     pub walk_stops : {e : Fault} → Err e ≡ first_fault (w.here g) → Err e ≡ tally_of checks total
-    walk_stops u = given_fault (next ∙ stops_before (w.here g) (w.rest (12 - (g + 1)) (g + 1)) u refl) (row total 14 0)
+    walk_stops u = fault_given (next ∙ stops_before (w.here g) (w.rest (12 - (g + 1)) (g + 1)) u refl) (row total 14 0)
 
     pub walk_on : Accepted ≡ first_fault (w.here g) → {d : List ℕ} → d ≡ raised (w.gain g) counts → ((p : ℕ) → w.gain g p ≤ 255) → Walking w checks total d (g + 1)
     walk_on u {d} r m =

@@ -88,8 +88,8 @@ counts_raised {n} {k} {l} {d} f h m e = record {
 
 -- counts and an amount of one pool more
 pub one_fits : {n : ℕ} {l : List ℕ} (pool amount : ℕ) → Counts n l → pool < 14 → n + amount < 2 ^ 32
-    → ((length l ≡ 14) × (pool < 14)) × (get_or l pool 0 + amount < 2 ^ 32)
-one_fits pool amount h b f = ((h.long, b), omega (arith, h.most pool))
+    → (pool < 14) × (get_or l pool 0 + amount < 2 ^ 32)
+one_fits pool amount h b f = (b, omega (arith, h.most pool))
 
 pub counts_one : {n : ℕ} {l d : List ℕ} (pool amount k : ℕ) → Counts n l → amount ≤ k → d ≡ raised (one_more pool amount) l → Counts (n + k) d
 counts_one pool amount k h b = counts_raised (one_more pool amount) h (λ p. pick_both (λ (x : ℕ). x ≤ k) (eqb pool p) b (omega arith))
@@ -152,7 +152,7 @@ module _ (q : Charges) (l : List ℕ) (long : length l ≡ 14) (small : Small l)
 
   module _ (a b : Charge) (e : q ≡ Two a b) where
     module _ (d : List ℕ) (u : d ≡ raised (one_more a.pool a.amount) l) where
-      pub pay_second : AllChargeable q → ((length d ≡ 14) × (b.pool < 14)) × (get_or d b.pool 0 + b.amount < 2 ^ 32)
+      pub pay_second : AllChargeable q → (b.pool < 14) × (get_or d b.pool 0 + b.amount < 2 ^ 32)
       pay_second h =
           let k : Chargeable a × Chargeable b = rw e at h in
           one_fits b.pool b.amount (counts_one a.pool a.amount 2 counts k.0.little u) k.1.pooled (omega (arith, k.1.little))

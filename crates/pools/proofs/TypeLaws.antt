@@ -4,7 +4,7 @@ use mathlib.Core.Path.{◌≡◌, refl, ap, ◌∙◌}
 use mathlib.Core.Bool.{Bool, ◌&&◌}
 use mathlib.Core.List.{List, [], ◌∷◌}
 use native.Mathlib.Omega.{arith}
-use lib.ListN.{length, get_or}
+use lib.ListN.{get_or}
 use lib.Dec.{eqb, ltb, leb}
 use borrow.Author.Tests.{ne_eqb}
 use Rattle.lists.specs.Pick.{pick}
@@ -109,7 +109,7 @@ module _ (first second : ℕ) (byte : first < 256) (l : List ℕ) (counts : Coun
   few = rw b₁ (credits_most (first % 16))
 
   module _ {d₁ : List ℕ} (r₁ : d₁ ≡ raised (one_more q₁ a₁) l) {q₂ a₂ : ℕ} (e₂ : q₂ ≡ push_pool second) (b₂ : a₂ ≡ pushes (first % 16)) where
-    pub add_push : ((length d₁ ≡ 14) × (q₂ < 14)) × (get_or d₁ q₂ 0 + a₂ < 2 ^ 32)
+    pub add_push : (q₂ < 14) × (get_or d₁ q₂ 0 + a₂ < 2 ^ 32)
     add_push =
         let few₂ : a₂ ≤ 1 = rw b₂ (one_most (leb 8 (first % 16) && ltb (first % 16) 10)) in
         one_fits q₂ a₂ (counts_one q₁ a₁ 2 counts few r₁) (rw e₂ (push_there second)) (omega (arith, few₂))

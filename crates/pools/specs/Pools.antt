@@ -1,6 +1,7 @@
 -- Pools (document 01, "Pools and the audit"): which pools a receiver has, what messages pay, and what grants give.
 use Rattle.std.specs.Prelude.{ℕ, zero, suc, ◌+◌, ◌%◌, Bool, true, false, ◌&&◌, ◌||◌, not, List, [], ◌∷◌, ◌++◌, get_or, eqb, ltb, leb}
 use Rattle.lists.specs.Pick.{pick}
+use Rattle.lists.specs.Parts.{part, pad}
 use Rattle.cause.specs.Causes.{header_place}
 use Rattle.cause.specs.Checks.{Check, check}
 use Rattle.cause.specs.declared.Cause.{Cause}
@@ -24,6 +25,10 @@ max_planes = 8
 
 abbrev pub max_capacity : ℕ
 max_capacity = 1023
+
+-- the receiver that sixteen numbers name, from number i on: its planes, push where the next is 1, 14 capacities; zeros behind the last number
+abbrev pub receiver_by_numbers : List ℕ → ℕ → Receiver
+receiver_by_numbers l i = record { planes = get_or l i 0; push = eqb (get_or l (i + 1) 0) 1; capacities = pad pool_count (part (i + 2) pool_count l) }
 
 -- pool p exists: planes 0 to N−1; 12 with push, 13 with push and N ≥ 2; 0, 9, 10 and 11 always
 abbrev pub has_pool : Receiver → ℕ → Bool

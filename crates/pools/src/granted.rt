@@ -1,5 +1,5 @@
 // The grants of an entry: their pools (cause 21), and what they give.
-ghost use Rattle.std.specs.Prelude.{◌≡◌, true, ◌||◌, [], ◌∷◌, ◌+◌, ◌<◌, eqb, ltb, length};
+ghost use Rattle.std.specs.Prelude.{◌≡◌, true, ◌||◌, [], ◌∷◌, ◌+◌, ◌<◌, eqb, ltb};
 ghost use Rattle.lists.specs.Pick.{pick};
 ghost use Rattle.cause.specs.Checks.{first_fault, Accepted};
 ghost use Rattle.pools.specs.Pools.{granted_by};
@@ -9,8 +9,9 @@ ghost use Rattle.pools.specs.Tallies.{tally_of, grants_give, granted_tally};
 
 use crate::kinds::Credits;
 use crate::receiver::Receiver;
+use crate::starts::Starts;
 use crate::table::ROW;
-use crate::tally::{add_count, read_start};
+use crate::tally::add_count;
 use cause::{Cause, Fault, HEADER_PLACE, Verdict};
 use container::{CONTAINER, GRANULES, Grant, decode_grant, locate_granule};
 use message::{
@@ -42,9 +43,9 @@ fn choose_dat(grant: Grant) -> u8
 }
 
 // Adds what a grant gives, whose DAT count has a pool.
-fn add_grant(grant: Grant, counts: &mut [u32])
+fn add_grant(grant: Grant, counts: &mut [u32; ROW])
     requires rp_bound { (grant.rp < 8) × ((grant.shc || (eqb grant.dat 0 || ltb grant.rp 2)) ≡ true) }
-    requires counts_len { (length counts.old ≡ 14) × Small counts.old }
+    requires small_counts { Small counts.old }
     ensures { counts.new ≡ raised (λ p. granted_by p grant) counts.old }
 {
     add_count(counts, choose_req(grant), Credits(grant.req as u32));
@@ -54,9 +55,9 @@ fn add_grant(grant: Grant, counts: &mut [u32])
 }
 
 // A grant at a place: judged, and what it gives added.
-fn take_grant(receiver: Receiver, grant: Grant, place: u64, counts: &mut [u32]) -> Verdict
+fn take_grant(receiver: Receiver, grant: Grant, place: u64, counts: &mut [u32; ROW]) -> Verdict
     requires rp_bound { grant.rp < 8 }
-    requires counts_len { (length counts.old ≡ 14) × Small counts.old }
+    requires small_counts { Small counts.old }
     ensures verdict { result ≡ first_fault (grant_check receiver grant place ∷ []) }
     ensures counts { result ≡ Accepted → counts.new ≡ raised (λ p. granted_by p grant) counts.old }
 {
@@ -67,50 +68,42 @@ fn take_grant(receiver: Receiver, grant: Grant, place: u64, counts: &mut [u32]) 
     Ok(())
 }
 
-// The CrdtGrant that starts in granule g, if there is one.
-fn grant_granule(
-    receiver: Receiver,
-    msgstart: u16,
-    container: &[u8],
-    g: u8,
-    counts: &mut [u32],
-) -> Verdict
-    requires container_len { (length container.now ≡ 256) × (g < 12) }
-    requires counts_len { (length counts.old ≡ 14) × Small counts.old }
-    ensures verdict { result ≡ first_fault (crdt_check receiver container.now msgstart g ∷ []) }
-    ensures counts { result ≡ Accepted → counts.new ≡ raised (λ p. pick (grants_at container.now msgstart g) (granted_by p (grant_at container.now g)) 0) counts.old }
-{
-    let a = locate_granule(g);
-    let byte0 = read_start(container, msgstart, g);
-    if !is_misc(byte0 % 16, container[a + 1], CRDT_GRANT) {
-        return Ok(());
+impl Starts<'_> {
+    // The CrdtGrant that starts in granule g, if there is one: judged by a receiver, and what it gives added.
+    fn grant_granule(self, receiver: Receiver, g: u8, counts: &mut [u32; ROW]) -> Verdict
+        requires granule_bound { g < 12 }
+        requires small_counts { Small counts.old }
+        ensures verdict { result ≡ first_fault (crdt_check receiver self.entry.container.now self.entry.msgstart g ∷ []) }
+        ensures counts { result ≡ Accepted → counts.new ≡ raised (λ p. pick (grants_at self.entry.container.now self.entry.msgstart g) (granted_by p (grant_at self.entry.container.now g)) 0) counts.old }
+    {
+        let container = self.container;
+        let a = locate_granule(g);
+        let byte0 = self.read_start(g);
+        if !is_misc(byte0 % 16, container[a + 1], CRDT_GRANT) {
+            return Ok(());
+        }
+        let grant = decode_grant(
+            container[a + 2],
+            container[a + 3],
+            container[a + 4],
+            container[a + 5],
+            container[a + 6],
+        );
+        take_grant(receiver, grant, g as u64, counts)
     }
-    let grant = decode_grant(
-        container[a + 2],
-        container[a + 3],
-        container[a + 4],
-        container[a + 5],
-        container[a + 6],
-    );
-    take_grant(receiver, grant, g as u64, counts)
-}
 
-// The grants of a container of 256 bytes: the header's, then the CrdtGrants in granule order.
-fn walk_granted(
-    receiver: Receiver,
-    grant: Grant,
-    msgstart: u16,
-    container: &[u8],
-) -> Result<[u32; ROW], Fault>
-    requires { (length container.now ≡ 256) × (grant.rp < 8) }
-    ensures { result ≡ tally_of (grant_check receiver grant 12 ∷ crdt_checks receiver container.now msgstart 12 0) (grants_give grant container.now msgstart) }
-{
-    let mut counts = [0u32; ROW];
-    take_grant(receiver, grant, HEADER_PLACE, &mut counts)?;
-    for g in 0..GRANULES {
-        grant_granule(receiver, msgstart, container, g, &mut counts)?;
+    // The grants: the header's, then the CrdtGrants that start, in granule order.
+    fn walk_granted(self, receiver: Receiver, grant: Grant) -> Result<[u32; ROW], Fault>
+        requires { grant.rp < 8 }
+        ensures { result ≡ tally_of (grant_check receiver grant 12 ∷ crdt_checks receiver self.entry.container.now self.entry.msgstart 12 0) (grants_give grant self.entry.container.now self.entry.msgstart) }
+    {
+        let mut counts = [0u32; ROW];
+        take_grant(receiver, grant, HEADER_PLACE, &mut counts)?;
+        for g in 0..GRANULES {
+            self.grant_granule(receiver, g, &mut counts)?;
+        }
+        Ok(counts)
     }
-    Ok(counts)
 }
 
 // What the header's grant and the CrdtGrants that start in a container by a MsgStart give, counted by pool: 1, 4, then 21 in this order.
@@ -122,11 +115,15 @@ pub fn tally_granted(
 ) -> Result<[u32; ROW], Fault>
     ensures { result ≡ granted_tally receiver grant container.now msgstart }
 {
-    if container.len() != CONTAINER {
+    let Ok(container) = <&[u8; CONTAINER]>::try_from(container) else {
         return Err(Cause::ContainerLength.at(0));
-    }
+    };
     if 8 <= grant.rp {
         return Err(Cause::HeaderGrantForm.at(0));
     }
-    walk_granted(receiver, grant, msgstart, container)
+    let starts = Starts {
+        container,
+        msgstart,
+    };
+    starts.walk_granted(receiver, grant)
 }

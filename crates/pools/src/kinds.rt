@@ -49,15 +49,6 @@ impl Credits {
     }
 }
 
-impl Slots {
-    // Whether these slots are as many as others.
-    pub fn equal(self, other: Slots) -> bool
-        ensures { result ≡ eqb self.0 other.0 }
-    {
-        self == other
-    }
-}
-
 // The slots that a row of credits stands for.
 pub(crate) fn claim_row(credits: [u32; ROW]) -> [u32; ROW]
     ensures { result ≡ credits }

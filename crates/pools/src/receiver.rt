@@ -1,11 +1,12 @@
 // The receiver of a direction: its pools, and whether those of a message and of a grant exist.
 ghost use Rattle.std.specs.Prelude.{◌≡◌, ◌&&◌, ◌||◌, ◌%◌, ◌<◌, eqb, ltb, leb};
 ghost use Rattle.message.specs.Charges.{res_plane, shared_crdt};
-ghost use Rattle.pools.specs.Pools.{has_pool, capacity_ok, receiver_ok, payable_by, grantable};
+ghost use Rattle.pools.specs.Pools.{receiver_by_numbers, has_pool, capacity_ok, capacities_ok, receiver_ok, payable_by, grantable};
 
-use crate::table::ROW;
+use crate::table::{ROW, take_row};
 use container::Grant;
 use message::{Class, DATA_DAT, PUSH_DAT, RSP, classify_message};
+use slices::item_or;
 
 // The pools.
 pub const POOLS: u32 = ROW as u32;
@@ -31,6 +32,18 @@ pub struct Receiver {
 }
 
 impl Receiver {
+    // The receiver whose planes, push and capacities stand from number `start` on, with zeros behind the last number.
+    pub fn from_numbers(numbers: &[u32], start: usize) -> Receiver
+        ensures { result ≡ receiver_by_numbers numbers.now start }
+    {
+        let capacities = take_row(numbers, start.saturating_add(2));
+        Receiver {
+            planes: item_or(numbers, start, 0),
+            push: item_or(numbers, start.saturating_add(1), 0) == 1,
+            capacities,
+        }
+    }
+
     // Whether a pool exists.
     pub fn has_pool(self, pool: u32) -> bool
         ensures { result ≡ has_pool self pool }
@@ -53,11 +66,23 @@ impl Receiver {
         capacity <= MAX_CAPACITY && (capacity == 0 || self.has_pool(pool))
     }
 
+    // Whether every capacity is right.
+    fn keeps_capacities(self) -> bool
+        ensures { result ≡ capacities_ok self 14 0 }
+    {
+        for pool in 0..POOLS {
+            if !self.keeps_capacity(pool) {
+                return false;
+            }
+        }
+        true
+    }
+
     // Whether the planes are 1 to 8 and every capacity is right.
     pub fn is_valid(self) -> bool
         ensures { result ≡ receiver_ok self }
     {
-        (1..=MAX_PLANES).contains(&self.planes) && (0..POOLS).all(|pool| self.keeps_capacity(pool))
+        (1..=MAX_PLANES).contains(&self.planes) && self.keeps_capacities()
     }
 
     // Whether the REQ plane that byte 0 of a message names exists.

@@ -1,5 +1,5 @@
 // A table of two directions by fourteen pools: nested in locals and arguments, flat in the state.
-ghost use Rattle.std.specs.Prelude.{◌≡◌, ◌+◌, ◌≤◌, length};
+ghost use Rattle.std.specs.Prelude.{◌≡◌, ◌≤◌};
 ghost use Rattle.lists.specs.Parts.{part, pad, put};
 ghost use Rattle.pools.specs.Rows.{nested, flattened};
 
@@ -29,8 +29,8 @@ pub fn nest(flat: [u32; TABLE]) -> [[u32; ROW]; 2]
 }
 
 // Puts a row in its place in a table, from `start` on.
-fn put_row(table: &mut [u32], start: usize, row: [u32; ROW])
-    requires { start + 14 ≤ length table.old }
+fn put_row(table: &mut [u32; TABLE], start: usize, row: [u32; ROW])
+    requires { start ≤ 14 }
     ensures { table.new ≡ put start row table.old }
 {
     for i in 0..ROW {

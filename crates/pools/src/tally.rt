@@ -1,14 +1,13 @@
 // Counts by pool, and how they grow.
-ghost use Rattle.std.specs.Prelude.{◌≡◌, ◌+◌, ◌%◌, ◌<◌, ◌^◌, ◌&&◌, eqb, ltb, leb, length, get_or, replicate};
+ghost use Rattle.std.specs.Prelude.{◌≡◌, ◌+◌, ◌%◌, ◌<◌, ◌^◌, ◌&&◌, eqb, ltb, leb, get_or};
 ghost use Rattle.lists.specs.Pick.{pick};
 ghost use Rattle.message.specs.Charges.{req_pool, dat_pool, listed, charges_by, charges};
 ghost use Rattle.pools.specs.Pools.{charged_to};
 ghost use Rattle.pools.specs.Rows.{row, raised, Small};
-ghost use Rattle.pools.specs.TalliesMirror.{pool_by, started_at};
+ghost use Rattle.pools.specs.TalliesMirror.{pool_by};
 
 use crate::kinds::{Credits, claim_row};
 use crate::table::ROW;
-use container::{locate_granule, start_bit};
 use message::{
     Charges, DATA_L, DATA_S, REQ_S, RESP, RESP2, RSP, SNOOP, SNP, WR_REQ_DATA_L, WR_REQ_DATA_S,
     charge_message, choose_dat, choose_push, choose_req,
@@ -16,9 +15,8 @@ use message::{
 use slices::byte_at;
 
 // Adds to the count of one pool.
-pub(crate) fn add_count(counts: &mut [u32], pool: u8, amount: Credits)
-    requires counts_len { (length counts.old ≡ 14) × (pool < 14) }
-    requires amount_bound { get_or counts.old pool 0 + amount.0 < 2 ^ 32 }
+pub(crate) fn add_count(counts: &mut [u32; ROW], pool: u8, amount: Credits)
+    requires { (pool < 14) × (get_or counts.old pool 0 + amount.0 < 2 ^ 32) }
     ensures { counts.new ≡ raised (λ p. pick (eqb pool p) amount.0 0) counts.old }
 {
     let i = pool as usize;
@@ -26,8 +24,8 @@ pub(crate) fn add_count(counts: &mut [u32], pool: u8, amount: Credits)
 }
 
 // Adds what a message pays, by its bytes 0 and 1.
-pub(crate) fn add_payment(counts: &mut [u32], byte0: u8, byte1: u8)
-    requires { (length counts.old ≡ 14) × Small counts.old }
+pub(crate) fn add_payment(counts: &mut [u32; ROW], byte0: u8, byte1: u8)
+    requires { Small counts.old }
     ensures { counts.new ≡ raised (λ p. charged_to p (listed (charges_by (byte0 % 16) byte0 byte1))) counts.old }
 {
     let charges = charge_message(byte0 % 16, byte0, byte1);
@@ -115,8 +113,8 @@ fn count_push(msgtype: u8) -> u32
 }
 
 // Adds the same as `add_payment` without a branch on the type, for the granule pass.
-pub(crate) fn add_charges(counts: &mut [u32], byte0: u8, byte1: u8)
-    requires { (length counts.old ≡ 14) × Small counts.old }
+pub(crate) fn add_charges(counts: &mut [u32; ROW], byte0: u8, byte1: u8)
+    requires { Small counts.old }
     ensures { counts.new ≡ raised (λ p. charged_to p (listed (charges_by (byte0 % 16) byte0 byte1))) counts.old }
 {
     let msgtype = byte0 % 16;
@@ -126,14 +124,6 @@ pub(crate) fn add_charges(counts: &mut [u32], byte0: u8, byte1: u8)
         Credits(count_credits(msgtype)),
     );
     add_count(counts, choose_push(byte1), Credits(count_push(msgtype)));
-}
-
-// Byte 0 of what starts in granule g, 0 where nothing does.
-pub(crate) fn read_start(container: &[u8], msgstart: u16, g: u8) -> u8
-    requires { (length container.now ≡ 256) × (g < 12) }
-    ensures { result ≡ started_at container.now msgstart g }
-{
-    container[locate_granule(g)] * start_bit(msgstart, g)
 }
 
 // What a carried message pays of each pool.

@@ -1,9 +1,5 @@
-use Prim.Native.Nat.{◌-◌}
 use Rattle.ledger.proofs.RunLaws.{Running}
 use Rattle.ledger.proofs.entries.audit_framed.Given as goal
 
 abbrev pub invariant-loop-count : goal.invariant-loop-count
 invariant-loop-count l = Running l.initial.state l.limit l.bytes l.state l.count l.at
-
-abbrev pub decreases-loop-count : goal.decreases-loop-count
-decreases-loop-count l = l.limit - l.count

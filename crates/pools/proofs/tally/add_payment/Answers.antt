@@ -17,10 +17,10 @@ able : (s : Start) → AllChargeable (charged s)
 able s = all_chargeable (s.args.byte0 % 16) s.args.byte0 s.args.byte1 (omega arith) (class_of (s.args.byte0 % 16))
 
 pub add_count-requires-in-Two-2 : goal.add_count-requires-in-Two-2
-add_count-requires-in-Two-2 c = let both = pay_second (charged (goal.at.add_count-requires-in-Two-2 c).Start) c.args.counts.now c.requires.0 c.requires.1 _ _ (sym c.charge_message-charges.ensures ∙ c.in-Two.is) _ c.add_count-in-Two.ensures (able (goal.at.add_count-requires-in-Two-2 c).Start) in record { counts_len = both.0; amount_bound = both.1 }
+add_count-requires-in-Two-2 c = pay_second (charged (goal.at.add_count-requires-in-Two-2 c).Start) c.args.counts.now c.told-counts c.requires _ _ (sym c.charge_message-charges.ensures ∙ c.in-Two.is) _ c.add_count-in-Two.ensures (able (goal.at.add_count-requires-in-Two-2 c).Start)
 
 pub returns-in-Free : goal.returns-in-Free
-returns-in-Free c = pay_none (charged (goal.at.returns-in-Free c).Start) c.args.counts.now c.requires.0 c.requires.1 (sym c.charge_message-charges.ensures ∙ c.in-Free.is)
+returns-in-Free c = pay_none (charged (goal.at.returns-in-Free c).Start) c.args.counts.now c.told-counts c.requires (sym c.charge_message-charges.ensures ∙ c.in-Free.is)
 
 pub returns-in-Two : goal.returns-in-Two
-returns-in-Two c = pay_two (charged (goal.at.returns-in-Two c).Start) c.args.counts.now c.requires.0 c.requires.1 _ _ (sym c.charge_message-charges.ensures ∙ c.in-Two.is) _ c.add_count-in-Two.ensures _ c.add_count-in-Two-2.ensures
+returns-in-Two c = pay_two (charged (goal.at.returns-in-Two c).Start) c.args.counts.now c.told-counts c.requires _ _ (sym c.charge_message-charges.ensures ∙ c.in-Two.is) _ c.add_count-in-Two.ensures _ c.add_count-in-Two-2.ensures

@@ -6,9 +6,8 @@ use Rattle.ledger.proofs.ledger.Ledger.audit.Goals as goal
 pub returns-then-not-admits : goal.returns-then-not-admits
 returns-then-not-admits c = audit_invalid c.args.self c.args.direction c.args.container.now c.admits.ensures (ap not c.if-not-admits.true) c.at.ensures c.refuse.ensures
 
-pub returns-then-container-ne-CONTAINER : goal.returns-then-container-ne-CONTAINER
-returns-then-container-ne-CONTAINER c = audit_long c.args.self c.args.direction c.args.container.now c.admits.ensures (ap not c.if-not-admits.false) c.if-container-ne-CONTAINER.true c.at-then-container-ne-CONTAINER.ensures c.refuse-then-container-ne-CONTAINER.ensures
+pub returns-in_default : goal.returns-in_default
+returns-in_default c = audit_long c.args.self c.args.direction c.args.container.now c.admits.ensures (ap not c.if-not-admits.false) c.in_default.ensures.1 c.at-in_default.ensures c.refuse-in_default.ensures
 
 pub audit_valid-requires : goal.audit_valid-requires
-audit_valid-requires c = let a = audit_admitted c.args.self c.args.direction c.args.container.now c.admits.ensures (ap not c.if-not-admits.false) in
-    (a.0, a.1, c.if-container-ne-CONTAINER.false)
+audit_valid-requires c = (audit_admitted c.args.self c.args.direction c.args.container.now c.admits.ensures (ap not c.if-not-admits.false)).1

@@ -11,24 +11,18 @@ use Rattle.ledger.proofs.ledger.Ledger.is_entry_idle.Goals as goal
 
 -- an idle entry is accepted and changes nothing, since the ledger's arrays are as long as their types say
 
-kept : (c : Start) {t : Bool} → let s = c.args.self in let d = c.args.direction in let b = c.args.container.now in
-    t ≡ idle_entry s d b → (t ≡ idle_entry s d b) × (t ≡ true → unchanged s ≡ auditing s d b)
-kept c e =
+kept : (c : Start) {t : Bool} → let s = c.args.self in let d = c.args.entry.direction in let b = c.args.entry.container.now in
+    t ≡ idle_entry s d b → t ≡ true → unchanged s ≡ auditing s d b
+kept c e q =
     let s = c.args.self in
     let n0 : length s.carry0.bytes ≡ 100 = search rules in
     let n1 : length s.carry1.bytes ≡ 100 = search rules in
     let nh : length s.held ≡ 28 = search rules in
     let nw : length s.opened ≡ 28 = search rules in
-    (e, λ q. sym (idle_accepted s c.args.direction c.args.container.now c.requires.0 c.requires.1 c.requires.2 n0 n1 nh nw (sym e ∙ q)))
+    sym (idle_accepted s c.args.entry.direction c.args.entry.container.now c.args.entry.is_direction c.requires n0 n1 nh nw (sym e ∙ q))
 
-pub returns-then-self-ne0 : goal.returns-then-self-ne0
-returns-then-self-ne0 c = let both = kept (goal.at.returns-then-self-ne0 c).Start (rw (c.if-direction-eq0.true, ne_eqb _ _ c.if-self-ne0.true)) in record { value = both.0; self_value = both.1 }
+pub returns-then-self-eq0-clause-self_value : goal.returns-then-self-eq0-clause-self_value
+returns-then-self-eq0-clause-self_value c = kept (goal.at.returns-then-self-eq0-clause-self_value c).Start (rw (c.if-direction-eq0.true, c.if-self-eq0.true) c.is_idle.ensures)
 
-pub returns-then-direction-eq0 : goal.returns-then-direction-eq0
-returns-then-direction-eq0 c = let both = kept (goal.at.returns-then-direction-eq0 c).Start (rw (c.if-direction-eq0.true, c.if-self-ne0.false) c.is_idle.ensures) in record { value = both.0; self_value = both.1 }
-
-pub returns-then-self-ne0-2 : goal.returns-then-self-ne0-2
-returns-then-self-ne0-2 c = let both = kept (goal.at.returns-then-self-ne0-2 c).Start (rw (ne_eqb _ _ c.if-direction-eq0.false, ne_eqb _ _ c.if-self-ne0-2.true)) in record { value = both.0; self_value = both.1 }
-
-pub returns : goal.returns
-returns c = let both = kept (goal.at.returns c).Start (rw (ne_eqb _ _ c.if-direction-eq0.false, c.if-self-ne0-2.false) c.is_idle-2.ensures) in record { value = both.0; self_value = both.1 }
+pub returns-then-self-eq0-2-clause-self_value : goal.returns-then-self-eq0-2-clause-self_value
+returns-then-self-eq0-2-clause-self_value c = kept (goal.at.returns-then-self-eq0-2-clause-self_value c).Start (rw (ne_eqb _ _ c.if-direction-eq0.false, c.if-self-eq0-2.true) c.is_idle-then-self-eq0-2.ensures)

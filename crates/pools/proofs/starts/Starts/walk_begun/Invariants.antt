@@ -1,9 +1,9 @@
 use Prim.Native.Nat.{◌-◌}
 use Rattle.pools.proofs.BegunLaws.{Begun}
-use Rattle.pools.proofs.begun.walk_begun.Given as goal
+use Rattle.pools.proofs.starts.Starts.walk_begun.Given as goal
 
 abbrev pub invariant-loop-g : goal.invariant-loop-g
-invariant-loop-g l = Begun l.receiver l.container l.msgstart l.counts l.g
+invariant-loop-g l = Begun l.receiver l.self.container.now l.self.msgstart l.counts l.g
 
 abbrev pub decreases-loop-g : goal.decreases-loop-g
 decreases-loop-g l = 12 - l.g
