@@ -1,30 +1,31 @@
 -- The run from the ledger of numbers, and its numbers. Assumes nothing.
-use Prim.Native.Nat.{ℕ, ◌<◌}
+use Prim.Native.Nat.{ℕ, ◌+◌}
 use mathlib.Core.Path.{◌≡◌, refl, sym, ap, ◌∙◌}
 use mathlib.Core.Bool.{Bool, true, false}
 use mathlib.Core.List.{List}
 use native.Mathlib.Omega.{arith}
 use lib.ListN.{get_or}
 use Rattle.lists.specs.Pick.{pick}
-use Rattle.cause.specs.Causes.{cause_number}
-use Rattle.cause.specs.declared.Cause.{Cause}
+use Rattle.lists.specs.Parts.{part, pad}
+use Rattle.lists.proofs.PartLaws.{part_at, part_most, length_pad, get_d_pad}
 use Rattle.cause.specs.declared.Cause.TheVariants.{InvalidState}
-use Rattle.cause.proofs.CauseLaws.{number_most}
+use Rattle.pools.specs.Pools.{receiver_by_numbers}
+use Rattle.pools.proofs.RowLaws.{row_same}
 use Rattle.ledger.specs.Audit.{ledger_ok, configured, reported}
-use Rattle.ledger.specs.Run.{halted, running, run_over}
+use Rattle.ledger.specs.Run.{halted, run_over}
 use Rattle.ledger.specs.declared.ledger.Ledger.{Ledger}
-use Rattle.ledger.specs.declared.entries.Run.{Run}
 use Rattle.ledger.proofs.FreshLaws.{fresh_valid}
 use Rattle.audit_probe.specs.Audit.{max_run, receiver_from, numbers_ok, plain_ledger_from, new_ledger_from, run_by, run_from, report_by, report_from}
 use Rattle.cause.specs.Checks.{given, Accepted, Refused}
 use Rattle.std.specs.Prelude.{Result, Ok, Err}
 use Rattle.cause.specs.declared.Fault.{Fault}
 
--- a run from a valid ledger goes over its entries
-pub run_valid : (s : Ledger) (l : List ℕ) → ledger_ok s ≡ true → running max_run s 0 0 l ≡ run_over s max_run l
-run_valid s l h = rw h
-
 -- ---- the ledger of numbers
+
+-- the receiver that numbers name, by the entries of its row
+pub receiver_named : (l : List ℕ) (i : ℕ) → receiver_by_numbers l i ≡ receiver_from l i
+receiver_named l i = let capacities : List ℕ = part (i + 2) 14 l in
+    rw (row_same (λ p. get_or l (i + 2 + p) 0) (pad 14 capacities) (length_pad 14 capacities (part_most (i + 2) 14 l)) (λ p b. get_d_pad 14 capacities p ∙ part_at (i + 2) 14 l p b))
 
 module _ (l : List ℕ) where
   abbrev opened : Bool → Bool → Result Ledger Fault
@@ -37,29 +38,26 @@ module _ (l : List ℕ) where
   opened_valid true false c s e = absurd (let z : ◌≡◌ {A = ℕ} 0 1 = cc in omega arith)
   opened_valid false u c s e = absurd (let z : ◌≡◌ {A = ℕ} 0 1 = cc in omega arith)
 
+  -- a ledger that is opened without a fault is valid
+  pub created_valid : (s : Ledger) → Ok s ≡ new_ledger_from l → ledger_ok s ≡ true
+  created_valid s w = opened_valid (numbers_ok l) (configured (get_or l 0 0) (receiver_from l 1) (receiver_from l 17)) refl s (sym w)
+
 -- ---- runs and reports
 
-module _ (l e : List ℕ) (o : Result Ledger Fault) (q : o ≡ new_ledger_from l) where
-  -- a ledger that is opened without a fault is valid
-  pub created_valid : (s : Ledger) → o ≡ Ok s → ledger_ok s ≡ true
-  created_valid s w = opened_valid l (numbers_ok l) (configured (get_or l 0 0) (receiver_from l 1) (receiver_from l 17)) refl s (sym q ∙ w)
-
-  pub run_refused : (f : Fault) → o ≡ Err f → halted (plain_ledger_from l) 0 0 (Err f) ≡ run_from l e
+module _ (l e : List ℕ) where
+  pub run_refused : (f : Fault) → Err f ≡ new_ledger_from l → halted (plain_ledger_from l) 0 0 (Err f) ≡ run_from l e
   unfolding run_from
-  run_refused f w = ap (λ (x : Result Ledger Fault). run_by x (plain_ledger_from l) e) (sym w ∙ q)
+  run_refused f w = ap (λ (x : Result Ledger Fault). run_by x (plain_ledger_from l) e) w
 
-  pub run_accepted : (s : Ledger) → o ≡ Ok s → run_over s max_run e ≡ run_from l e
+  pub run_accepted : (s : Ledger) → Ok s ≡ new_ledger_from l → run_over s max_run e ≡ run_from l e
   unfolding run_from
-  run_accepted s w = ap (λ (x : Result Ledger Fault). run_by x (plain_ledger_from l) e) (sym w ∙ q)
+  run_accepted s w = ap (λ (x : Result Ledger Fault). run_by x (plain_ledger_from l) e) w
 
-  pub report_refused : (d p : ℕ) (f : Fault) → o ≡ Err f → Err f ≡ report_from l e d p
-  unfolding report_from
-  report_refused d p f w = ap (λ (x : Result Ledger Fault). report_by x (run_from l e).ledger d p) (sym w ∙ q)
+  module _ (d p : ℕ) where
+    pub report_refused : (f : Fault) → Err f ≡ new_ledger_from l → Err f ≡ report_from l e d p
+    unfolding report_from
+    report_refused f w = ap (λ (x : Result Ledger Fault). report_by x (run_from l e).ledger d p) w
 
-  pub report_accepted : (d p : ℕ) (r : Run) (s : Ledger) → o ≡ Ok s → r ≡ run_from l e → reported r.ledger d p ≡ report_from l e d p
-  unfolding report_from
-  report_accepted d p r s w z = ap (λ (x : Run). reported x.ledger d p) z ∙ ap (λ (x : Result Ledger Fault). report_by x (run_from l e).ledger d p) (sym w ∙ q)
-
--- the number of a refusal's cause is small
-pub number_low : (k : Cause) {n : ℕ} → n ≡ cause_number k → n < 256
-number_low k e = let m = number_most k in omega arith
+    pub report_accepted : (s : Ledger) → Ok s ≡ new_ledger_from l → reported (run_from l e).ledger d p ≡ report_from l e d p
+    unfolding report_from
+    report_accepted s w = ap (λ (x : Result Ledger Fault). report_by x (run_from l e).ledger d p) w

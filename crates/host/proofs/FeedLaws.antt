@@ -15,7 +15,7 @@ use Rattle.cause.specs.declared.Cause.TheVariants.{RoomTooSmall, InvalidState}
 use Rattle.cause.proofs.CauseLaws.{number_most}
 use Rattle.cause.proofs.CheckLaws.{accepted_pass}
 use Rattle.cause.proofs.FaultLaws.{refused_at}
-use Rattle.reader.proofs.AnswerLaws.{given_fine}
+use Rattle.cause.proofs.GivenLaws.{given_fine}
 use Rattle.feeder.specs.Feeding.{feed_ok, step_by, feeding, fed_part}
 use Rattle.feeder.specs.Rules.{Moves, moved_over}
 use Rattle.feeder.specs.declared.found.Waiting.{Waiting}

@@ -1,26 +1,28 @@
 -- The numbers of a configuration, one after the other: what each comes to, and what is looked at. Assumes nothing.
 use Prim.Native.Nat.{ℕ, zero, suc, ◌-◌, ◌+◌, ◌*◌, ◌≤◌, ◌<◌}
 use mathlib.Core.Path.{◌≡◌, refl, sym, ap, subst, ◌∙◌}
-use mathlib.Core.Bool.{Bool, true, false, ◌||◌}
+use mathlib.Core.Bool.{true, false}
 use mathlib.Core.List.{List, ◌++◌}
 use native.Mathlib.Omega.{arith}
-use lib.ListN.{length, take, drop, set, replicate, length-drop}
+use lib.ListN.{length, take, drop, set, length-drop}
 use lib.Seq.{drop-drop, drop-append-le}
 use Rattle.lists.specs.Pick.{pick}
 use Rattle.lists.proofs.PickLaws.{pick_both}
-use Rattle.lists.proofs.PartLaws.{rest_is}
+use Rattle.lists.specs.Parts.{part}
+use Rattle.lists.proofs.PartLaws.{rest_is, pad_whole, length_part}
 use Rattle.cause.specs.declared.Cause.TheVariants.{BrokenRecord, InvalidState}
 use Rattle.record.specs.Number.{read_number, Broken, Value}
 use Rattle.record.specs.declared.number.Number.{Number}
-use Rattle.logs.specs.Log.{ConfigurationAnswer, misconfigures, configures, configuration_from, configuration_at, configuration_of, number_then, value_ok}
+use Rattle.pools.specs.Pools.{receiver_by_numbers}
+use Rattle.logs.specs.Log.{receiver_at, ConfigurationAnswer, misconfigures, configures, configuration_from, configuration_at, configuration_of, number_then, value_ok}
 use Rattle.logs.specs.declared.configuration.Configuration.{Configuration}
 use Rattle.cause.specs.declared.Fault.{Fault}
 use Rattle.record.proofs.NumberTakes.{Takes, takes_number, number_append}
-use Rattle.std.specs.Prelude.{Option, Some, None, Result, Ok, Err}
+use Rattle.std.specs.Prelude.{Option, Some, None, Result, Ok}
 
-pub or_false : (b : Bool) → (b || false) ≡ b
-or_false true = refl
-or_false false = refl
+-- the receiver that sixteen of 33 numbers name
+pub receiver_named : (l : List ℕ) (i : ℕ) → length l ≡ 33 → i ≤ 17 → receiver_by_numbers l i ≡ receiver_at l i
+receiver_named l i long low = rw (pad_whole 14 (part (i + 2) 14 l) (length_part (i + 2) 14 l (omega arith)))
 
 -- ---- one number
 
@@ -53,9 +55,6 @@ pub record Setting-at (b : List ℕ) (ns : List ℕ) (at i : ℕ) : Type 0 where
   pub low : i ≤ 33
   pub within : at ≤ length b
   pub same : configuration_at b ≡ configuration_from (33 - i) ns i at (drop at b)
-
-pub configuration_begins : (b : List ℕ) → Setting-at b (replicate 33 0) 0 0
-configuration_begins b = record { low = omega arith; within = omega arith; same = refl }
 
 module _ (b : List ℕ) (ns : List ℕ) (at i : ℕ) (h : Setting-at b ns at i) (more : i < 33) (r : Option Number)
     (read : r ≡ read_number (take (length b - at) (drop at b))) where
@@ -97,34 +96,15 @@ configuration_ends b ns at i h full =
 
 -- ---- what the code's answer says of a configuration
 
-fault_in : Fault → Result Configuration Fault → Fault
-fault_in other (Ok _) = other
-fault_in other (Err fault) = fault
-
-numbers_in : Configuration → Result Configuration Fault → Configuration
-numbers_in other (Ok configuration) = configuration
-numbers_in other (Err _) = other
-
-wrong_by : (t : ConfigurationAnswer) (f : Fault) → configuration_of t ≡ Err f → t ≡ misconfigures f.cause f.place
-unfolding fault_in
-wrong_by (misconfigures x y) f q =
-    let same : record { cause = x; place = y } ≡ f = ap (fault_in f) q in
-    ap (λ (g : Fault). misconfigures g.cause g.place) same
-wrong_by (configures ns n) f q = absurd (let z : ◌≡◌ {A = ℕ} 0 1 = cc in omega arith)
-
 good_by : (t : ConfigurationAnswer) (c : Configuration) → configuration_of t ≡ Ok c → t ≡ configures c.numbers c.used
-unfolding numbers_in
 good_by (misconfigures x y) c q = absurd (let z : ◌≡◌ {A = ℕ} 0 1 = cc in omega arith)
 good_by (configures ns n) c q =
-    let same : record { numbers = ns; used = n } ≡ c = ap (numbers_in c) q in
+    let same : record { numbers = ns; used = n } ≡ c = cc in
     ap (λ (x : Configuration). configures x.numbers x.used) same
 
-module _ (b : List ℕ) (r : Result Configuration Fault) (e : r ≡ configuration_of (configuration_at b)) where
-  pub told_wrong : (f : Fault) → r ≡ Err f → configuration_at b ≡ misconfigures f.cause f.place
-  told_wrong f q = wrong_by (configuration_at b) f (sym e ∙ q)
-
-  pub told_good : (c : Configuration) → r ≡ Ok c → configuration_at b ≡ configures c.numbers c.used
-  told_good c q = good_by (configuration_at b) c (sym e ∙ q)
+pub told_good : (b : List ℕ) (r : Result Configuration Fault) → r ≡ configuration_of (configuration_at b) → (c : Configuration) → r ≡ Ok c
+    → configuration_at b ≡ configures c.numbers c.used
+told_good b r e c q = good_by (configuration_at b) c (sym e ∙ q)
 
 -- ---- how far it goes
 

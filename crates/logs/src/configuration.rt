@@ -1,11 +1,11 @@
 // The configuration of a log: its numbers, judged as they are read, and the ledger that they start.
-ghost use Rattle.std.specs.Prelude.{◌≡◌, ◌≤◌, ◌<◌};
-ghost use Rattle.logs.specs.Log.{receiver_at, suits, value_ok, configuration_at, configuration_of, ledger_of};
+ghost use Rattle.std.specs.Prelude.{◌≡◌, ◌<◌};
+ghost use Rattle.logs.specs.Log.{suits, value_ok, configuration_at, configuration_of, ledger_of};
 
 use cause::{Cause, Fault};
 use container::FORMATS;
 use ledger::Ledger;
-use pools::{MAX_CAPACITY, MAX_PLANES, Receiver, take_row};
+use pools::{MAX_CAPACITY, MAX_PLANES, Receiver};
 use record::{Number, read_number};
 
 // The numbers of a configuration: the format, and those of each direction.
@@ -20,39 +20,15 @@ pub struct Configuration {
     pub used: usize,
 }
 
-// The receiver of the sixteen numbers from `start` on.
-fn take_receiver(numbers: [u32; NUMBERS], start: usize) -> Receiver
-    requires { start ≤ 17 }
-    ensures { result ≡ receiver_at numbers start }
-{
-    let capacities = take_row(&numbers, start + 2);
-    Receiver {
-        planes: numbers[start],
-        push: numbers[start + 1] == 1,
-        capacities: capacities,
-    }
-}
-
 // Whether a value may be the number at a place of a receiver's sixteen.
 fn suits_receiver(receiver: Receiver, place: u32, value: u32) -> bool
     ensures { result ≡ suits receiver place value }
 {
-    if place == 0 {
-        if value < 1 {
-            return false;
-        }
-        return value <= MAX_PLANES;
+    match place {
+        0 => (1..=MAX_PLANES).contains(&value),
+        1 => value < 2,
+        _ => value <= MAX_CAPACITY && (value == 0 || receiver.has_pool(place - 2)),
     }
-    if place == 1 {
-        return value < 2;
-    }
-    if MAX_CAPACITY < value {
-        return false;
-    }
-    if value == 0 {
-        return true;
-    }
-    receiver.has_pool(place - 2)
 }
 
 // Whether a value may be number i of a configuration, behind the numbers before it.
@@ -65,7 +41,8 @@ fn suits_place(numbers: [u32; NUMBERS], i: usize, value: u32) -> bool
     }
     let start = (i - 1) / RECEIVER_NUMBERS * RECEIVER_NUMBERS + 1;
     let place = (i - 1) % RECEIVER_NUMBERS;
-    suits_receiver(take_receiver(numbers, start), place as u32, value)
+    let receiver = Receiver::from_numbers(&numbers, start);
+    suits_receiver(receiver, place as u32, value)
 }
 
 // The configuration at the front of the bytes: each number is judged for its form and then for its value.
@@ -84,17 +61,15 @@ pub fn read_configuration(bytes: &[u8]) -> Result<Configuration, Fault>
         numbers[i] = value;
         at += used;
     }
-    Ok(Configuration {
-        numbers: numbers,
-        used: at,
-    })
+    Ok(Configuration { numbers, used: at })
 }
 
 // The ledger that a configuration starts.
+#[tactic(auto, using(crate::proofs::ConfigurationLaws::receiver_named))]
 pub fn start_ledger(numbers: [u32; NUMBERS]) -> Ledger
     ensures { result ≡ ledger_of numbers }
 {
-    let first = take_receiver(numbers, 1);
-    let second = take_receiver(numbers, 1 + RECEIVER_NUMBERS);
+    let first = Receiver::from_numbers(&numbers, 1);
+    let second = Receiver::from_numbers(&numbers, 1 + RECEIVER_NUMBERS);
     Ledger::empty(numbers[0], first, second)
 }

@@ -54,7 +54,7 @@ fn refuse_log(entries: u32, fault: Fault) -> Option<LogVerdict>
     ensures { result ≡ Some (LogVerdict.Refused entries fault.cause fault.place) }
 {
     Some(LogVerdict::Refused {
-        entries: entries,
+        entries,
         cause: fault.cause,
         place: fault.place,
     })
@@ -65,18 +65,12 @@ fn conclude(entries: u32, offset: u64, left: usize, ended: bool) -> Option<LogVe
     ensures { result ≡ concluding entries offset left ended }
 {
     if left == 0 {
-        if ended {
-            return Some(LogVerdict::Accepted { entries: entries });
-        }
-        return None;
+        return ended.then_some(LogVerdict::Accepted { entries });
     }
     if MAX_ENTRIES <= entries {
         return refuse_log(entries, Cause::TooLong.at(0));
     }
-    if ended {
-        return refuse_log(entries, Cause::BrokenRecord.at(offset));
-    }
-    if LONGEST_ENTRY <= left as u64 {
+    if ended || LONGEST_ENTRY <= left as u64 {
         return refuse_log(entries, Cause::BrokenRecord.at(offset));
     }
     None
@@ -87,9 +81,9 @@ fn stop_at(at: usize, reader: LogReader, outcome: Option<LogVerdict>) -> Consume
     ensures { result ≡ stopped_at at reader outcome }
 {
     Consumed {
-        reader: reader,
+        reader,
         used: at,
-        outcome: outcome,
+        outcome,
     }
 }
 
@@ -99,9 +93,8 @@ impl LogReader {
         ensures { result ≡ fresh_reader }
     {
         let numbers = [0u32; 33];
-        let ledger = start_ledger(numbers);
         LogReader {
-            ledger: ledger,
+            ledger: start_ledger(numbers),
             entries: 0,
             offset: 0,
         }
@@ -116,13 +109,9 @@ impl LogReader {
         if offset == 0 {
             return entries == 0;
         }
-        if MAX_ENTRIES < entries {
-            return false;
-        }
-        if offset < SHORTEST_CONFIGURATION + SHORTEST_ENTRY * (entries as u64) {
-            return false;
-        }
-        offset <= LONGEST_CONFIGURATION + LONGEST_ENTRY * (entries as u64)
+        let least = SHORTEST_CONFIGURATION + SHORTEST_ENTRY * entries as u64;
+        let most = LONGEST_CONFIGURATION + LONGEST_ENTRY * entries as u64;
+        entries <= MAX_ENTRIES && least <= offset && offset <= most
     }
 
     // Audits the entries from byte `from` on.
@@ -138,17 +127,16 @@ impl LogReader {
         let entries = self.entries + run.accepted;
         let offset = self.offset + run.used as u64;
         let reader = LogReader {
-            ledger: ledger,
-            entries: entries,
-            offset: offset,
+            ledger,
+            entries,
+            offset,
         };
         match run.answer {
             Err(fault) => stop_at(at, reader, refuse_log(entries, fault)),
-            Ok(()) => stop_at(
-                at,
-                reader,
-                conclude(entries, offset, bytes.len() - at, ended),
-            ),
+            Ok(()) => {
+                let left = bytes.len() - at;
+                stop_at(at, reader, conclude(entries, offset, left, ended))
+            }
         }
     }
 
@@ -161,9 +149,8 @@ impl LogReader {
             Ok(configuration) => {
                 let numbers = configuration.numbers;
                 let used = configuration.used;
-                let ledger = start_ledger(numbers);
                 let reader = LogReader {
-                    ledger: ledger,
+                    ledger: start_ledger(numbers),
                     entries: 0,
                     offset: used as u64,
                 };
@@ -176,13 +163,10 @@ impl LogReader {
     fn begin(self, bytes: &[u8], ended: bool) -> Consumed
         ensures { result ≡ beginning self bytes.now ended }
     {
-        if ended {
+        if ended || LONGEST_ENTRY <= bytes.len() as u64 {
             return self.configure(bytes, ended);
         }
-        if (bytes.len() as u64) < LONGEST_ENTRY {
-            return stop_at(0, self, None);
-        }
-        self.configure(bytes, ended)
+        stop_at(0, self, None)
     }
 
     // Judges the bytes at hand: those that the last call has left, and the next ones behind them; `ended` where the log has no more.

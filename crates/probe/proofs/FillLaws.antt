@@ -140,10 +140,7 @@ module _ (w : Writer) (l : List ℕ) (n : Grant) (size : ℕ) (long : length w.t
   pub step_small : (s : Step) → s ≡ filling w l n size → Small s.answer s.writer.len
   step_small s e = subst (λ (x : Step). Small x.answer x.writer.len) (sym e) fill_small
 
--- what that says of an answer that is told
-pub filled_small : (a : Answer) (u n : ℕ) → a ≡ fill.Accepted u → Small a n → (u ≤ 4096) × (n ≤ 100)
-filled_small a u n e h = subst (λ (x : Answer). Small x n) e h
-
+-- what that says of a refusal
 pub refused_small : (a : Answer) (k : Cause) (p n x : ℕ) → a ≡ fill.Refused k p → Small a n → x ≡ cause_number k → (p ≤ 4096) × (x < 256)
 refused_small a k p n x e h ex = let m = number_most k in (subst (λ (y : Answer). Small y n) e h, omega arith)
 

@@ -82,9 +82,9 @@ pub fn c2c_fill(
         return 19 * 4294967296;
     }
     let writer = Writer {
-        format: format,
+        format,
         tail: load_tail(tail),
-        len: len,
+        len,
     };
     let step = writer.fill(list, load_grant(grant), container);
     let next = step.writer;
@@ -106,9 +106,9 @@ fn ask<'a>(
     ensures { result.now ≡ fed_part format responses.now others.now (feed_of response other run) }
 {
     let feed = Feed {
-        response: response,
-        other: other,
-        run: run,
+        response,
+        other,
+        run,
     };
     feed.next_record(format, responses, others)
 }

@@ -17,7 +17,7 @@ use Rattle.lists.proofs.PickLaws.{pick_both}
 use Rattle.cause.specs.declared.Cause.TheVariants.{BrokenRecord, TooLong, InvalidState}
 use Rattle.container.specs.Layout.{container_size}
 use Rattle.container.specs.declared.grant.Grant.{Grant}
-use Rattle.record.specs.Number.{read_number, Broken, Value}
+use Rattle.record.specs.Number.{read_number}
 use Rattle.record.specs.declared.number.Number.{Number}
 use Rattle.reader.specs.Reading.{records, reading, room_size}
 use Rattle.reader.specs.declared.reader.Reader.{Reader}

@@ -1,12 +1,12 @@
 -- The states of an input between two calls, and what a call comes to in each. Assumes nothing.
-use Prim.Native.Nat.{ℕ, ◌+◌, ◌-◌, ◌*◌, ◌≤◌, ◌<◌}
-use mathlib.Core.Path.{◌≡◌, sym, ap, ◌∙◌}
+use Prim.Native.Nat.{ℕ, ◌+◌, ◌-◌, ◌*◌}
+use mathlib.Core.Path.{◌≡◌, sym, ◌∙◌}
 use mathlib.Core.Bool.{Bool, true, false, ◌&&◌}
 use mathlib.Core.List.{List}
 use mathlib.Core.Logic.{⊎_elim}
 use native.Mathlib.Omega.{arith}
 use lib.Dec.{eqb, leb}
-use borrow.Author.Tests.{lt-leb, le-leb, leb-true, eq-eqb, ne_eqb, eqb-true, eqb-false}
+use borrow.Author.Tests.{le-leb, leb-true, eq-eqb, ne_eqb, eqb-true, eqb-false}
 use Rattle.lists.proofs.Tests.{cases, and_left, and_right, and_both}
 use Rattle.cause.specs.declared.Cause.TheVariants.{InvalidState}
 use Rattle.record.specs.Number.{read_number}
@@ -31,19 +31,6 @@ module _ (s : Unpacker) where
     behind : valid_state s ≡ (leb s.entries max_containers && far)
     unfolding valid_state
     behind = rw (ne_eqb s.offset 0 some)
-
-    pub valid_many : max_containers < s.entries → false ≡ valid_state s
-    valid_many h = sym (behind ∙ ap (λ (t : Bool). t && far) (lt-leb s.entries max_containers h))
-
-    module _ (few : s.entries ≤ max_containers) where
-      counted : valid_state s ≡ far
-      counted = behind ∙ ap (λ (t : Bool). t && far) (le-leb s.entries max_containers few)
-
-      pub valid_far : (s.offset ≡ 256 * s.entries + 1 → ⊥) → false ≡ valid_state s
-      valid_far d = sym (counted ∙ ap (λ (t : Bool). t && reader_ok s.reader) (ne_eqb s.offset (256 * s.entries + 1) d))
-
-      pub valid_reader : s.offset ≡ 256 * s.entries + 1 → reader_ok s.reader ≡ valid_state s
-      valid_reader e = sym (counted ∙ ap (λ (t : Bool). t && reader_ok s.reader) (eq-eqb s.offset (256 * s.entries + 1) e))
 
     pub valid_running : valid_state s ≡ true → Running s
     valid_running e =

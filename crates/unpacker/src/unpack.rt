@@ -62,22 +62,16 @@ impl Unpacker {
     }
 
     // Whether the state is valid.
+    #[tactic(auto, unfolding(crate::specs::Stepping::valid_state))]
     fn is_valid(self) -> bool
         ensures { result ≡ valid_state self }
     {
         let entries = self.entries;
         let offset = self.offset;
-        let reader = self.reader;
         if offset == 0 {
             return entries == 0;
         }
-        if MAX_CONTAINERS < entries {
-            return false;
-        }
-        if offset != 256 * entries + 1 {
-            return false;
-        }
-        reader.is_valid()
+        entries <= MAX_CONTAINERS && offset == 256 * entries + 1 && self.reader.is_valid()
     }
 
     // A call that asks for more bytes.
@@ -101,7 +95,7 @@ impl Unpacker {
         Unpacked {
             unpacker: self,
             used: 0,
-            written: written,
+            written,
             outcome: Outcome::Over(verdict),
         }
     }
@@ -118,11 +112,11 @@ impl Unpacker {
             Err(fault) => self.conclude(Err(fault), room),
             Ok(reader) => Unpacked {
                 unpacker: Unpacker {
-                    reader: reader,
+                    reader,
                     entries: 0,
                     offset: used as u64,
                 },
-                used: used,
+                used,
                 written: 0,
                 outcome: Outcome::Next,
             },
@@ -134,13 +128,10 @@ impl Unpacker {
         ensures call { result ≡ answered (beginning self bytes.now ended) }
         ensures room { room.new ≡ put 0 (beginning self bytes.now ended).text room.old }
     {
-        if ended {
+        if ended || MAX_NUMBER <= bytes.len() {
             return self.read_format(bytes, room);
         }
-        if bytes.len() < MAX_NUMBER {
-            return self.wait();
-        }
-        self.read_format(bytes, room)
+        self.wait()
     }
 
     // Reads a container and writes the messages that end in it.
@@ -149,18 +140,15 @@ impl Unpacker {
         ensures call { result ≡ answered (container_turn self container.now) }
         ensures room { room.new ≡ put 0 (container_turn self container.now).text room.old }
     {
-        let reader = self.reader;
         let mut records = [0u8; ROOM];
-        let step = reader.read(container, &mut records);
-        let answer = step.answer;
-        match answer {
+        let step = self.reader.read(container, &mut records);
+        match step.answer {
             Answer::Refused { cause, place } => self.conclude(Err(cause.at(place)), room),
             Answer::Accepted { written, grant: _ } => {
-                let printed = write_messages(&records[0..written], room);
-                let next = step.reader;
+                let printed = write_messages(&records[..written], room);
                 Unpacked {
                     unpacker: Unpacker {
-                        reader: next,
+                        reader: step.reader,
                         entries: self.entries + 1,
                         offset: self.offset + 256,
                     },
@@ -178,22 +166,20 @@ impl Unpacker {
         ensures call { result ≡ answered (running self bytes.now ended) }
         ensures room { room.new ≡ put 0 (running self bytes.now ended).text room.old }
     {
-        if bytes.len() == 0 {
-            if ended {
-                return self.conclude(Ok(()), room);
-            }
-            return self.wait();
+        let left = bytes.len();
+        if left == 0 && ended {
+            return self.conclude(Ok(()), room);
         }
-        if MAX_CONTAINERS <= self.entries {
+        if 0 < left && MAX_CONTAINERS <= self.entries {
             return self.conclude(Err(Cause::TooLong.at(0)), room);
         }
-        if bytes.len() < CONTAINER {
-            if ended {
-                return self.conclude(Err(Cause::BrokenRecord.at(self.offset)), room);
-            }
-            return self.wait();
+        if CONTAINER <= left {
+            return self.read_container(&bytes[..CONTAINER], room);
         }
-        self.read_container(&bytes[0..CONTAINER], room)
+        if ended {
+            return self.conclude(Err(Cause::BrokenRecord.at(self.offset)), room);
+        }
+        self.wait()
     }
 
     // Reads the format or one container from the bytes at hand: those that the last call has left, and the next ones behind them;

@@ -1,5 +1,5 @@
 use mathlib.Core.Path.{sym}
-use Rattle.reader.proofs.AnswerLaws.{given_fault}
+use Rattle.cause.proofs.GivenLaws.{given_fault}
 use Rattle.host.proofs.FeedLaws.{refused_numbers, refused_room, three, next_fits, moves, moved_fits, answer_small, accepted_code, accepted_numbers, accepted_room}
 use Rattle.host.proofs.feed.ask.Goals as goal
 

@@ -1,5 +1,5 @@
 use mathlib.Core.Path.{sym, ◌∙◌}
-use Rattle.reader.proofs.AnswerLaws.{given_fault}
+use Rattle.cause.proofs.GivenLaws.{given_fault}
 use Rattle.host.proofs.FeedLaws.{fault_small, refused_code}
 use Rattle.host.proofs.feed.c2c_feed.Goals as goal
 

@@ -35,11 +35,6 @@ slice_bounds-pack_list-count c = within (goal.at.slice_bounds-pack_list-count c)
 pub slice_bounds-pack_list-start : goal.slice_bounds-pack_list-start
 slice_bounds-pack_list-start c = let h = within (goal.at.slice_bounds-pack_list-start c).In_ok-value in search rules
 
-pub pack_list-requires : goal.pack_list-requires
-pack_list-requires c =
-    let asks = list_asks c.args.input.now c.args.room.now _ (found (goal.at.pack_list-requires c).In_ok-value) _ c.in_ok-writer.ensures in
-    (asks.0, asks.1, c.requires)
-
 pub returns : goal.returns
 returns c =
     subst (λ (out : List ℕ). Written out c.args.room.now c.pack_list.new.room c.pack_list.result)

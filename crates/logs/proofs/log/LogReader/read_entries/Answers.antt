@@ -32,8 +32,8 @@ overflow_add-entries c = let r = (room (goal.at.overflow_add-entries c).After-au
 pub overflow_add-offset : goal.overflow_add-offset
 overflow_add-offset c = let r = (room (goal.at.overflow_add-offset c).After-audit_entries-run).2 in search rules
 
-pub overflow_sub-bytes : goal.overflow_sub-bytes
-overflow_sub-bytes c = (room (goal.at.overflow_sub-bytes c).After-audit_entries-run).0
+pub overflow_sub-left : goal.overflow_sub-left
+overflow_sub-left c = (room (goal.at.overflow_sub-left c).After-audit_entries-run).0
 
 pub returns-in-Err : goal.returns-in-Err
 returns-in-Err c = let s = c.args.self in
