@@ -21,14 +21,14 @@ receiver_from l at = record { planes = get_or l at 0; push = eqb (get_or l (at +
 abbrev pub numbers_ok : List ℕ → Bool
 numbers_ok l = eqb (length l) 33 && (ltb (get_or l 2 0) 2 && ltb (get_or l 18 0) 2)
 
--- the fresh ledger of a format and the two receivers behind it; numbers that are none of a configuration are 19
-abbrev pub new_ledger_from : List ℕ → Result Ledger Fault
-new_ledger_from l =
-    pick (numbers_ok l) (new_ledger (get_or l 0 0) (receiver_from l 1) (receiver_from l 17)) (Err (record { cause = InvalidState; place = 0 }))
-
--- the ledger of those numbers, of a configuration or not
+-- the ledger of a format and the two receivers behind it, of a configuration or not
 abbrev pub plain_ledger_from : List ℕ → Ledger
 plain_ledger_from l = fresh_ledger (get_or l 0 0) (receiver_from l 1) (receiver_from l 17)
+
+-- the fresh ledger of those numbers; numbers that are none of a configuration are 19, beside that ledger
+abbrev pub new_ledger_from : List ℕ → Result Ledger (Ledger × Fault)
+new_ledger_from l =
+    pick (numbers_ok l) (new_ledger (get_or l 0 0) (receiver_from l 1) (receiver_from l 17)) (Err (plain_ledger_from l, record { cause = InvalidState; place = 0 }))
 
 -- 0, or the cause of the refusal; and its place
 abbrev pub cause_of : Verdict → ℕ
@@ -44,17 +44,17 @@ abbrev pub max_run : ℕ
 max_run = 4_294_967_295
 
 -- what the entries at the front of e come to from a fresh ledger
-abbrev pub run_by : Result Ledger Fault → Ledger → List ℕ → Run
-run_by (Ok s) plain e = run_over s max_run e
-run_by (Err fault) plain e = halted plain 0 0 (Err fault)
+abbrev pub run_by : Result Ledger (Ledger × Fault) → List ℕ → Run
+run_by (Ok s) e = run_over s max_run e
+run_by (Err (s, fault)) e = halted s 0 0 (Err fault)
 
 unfoldable pub run_from : List ℕ → List ℕ → Run
-run_from l e = run_by (new_ledger_from l) (plain_ledger_from l) e
+run_from l e = run_by (new_ledger_from l) e
 
 -- the report of direction d and pool p behind them
-abbrev pub report_by : Result Ledger Fault → Ledger → ℕ → ℕ → Result Report Fault
+abbrev pub report_by : Result Ledger (Ledger × Fault) → Ledger → ℕ → ℕ → Result Report Fault
 report_by (Ok _) s d p = reported s d p
-report_by (Err fault) s d p = Err fault
+report_by (Err (_, fault)) s d p = Err fault
 
 unfoldable pub report_from : List ℕ → List ℕ → ℕ → ℕ → Result Report Fault
 report_from l e d p = report_by (new_ledger_from l) (run_from l e).ledger d p

@@ -34,13 +34,13 @@ fn load_ledger(numbers: &[u32]) -> Ledger
     Ledger::empty(format, first, second)
 }
 
-// The fresh ledger of the numbers of a configuration.
+// The fresh ledger of the numbers of a configuration; what is none is refused, beside the ledger of the numbers.
 #[tactic(auto, using(crate::proofs::AuditLaws::receiver_named))]
-fn start_ledger(numbers: &[u32]) -> Result<Ledger, Fault>
+fn start_ledger(numbers: &[u32]) -> Result<Ledger, (Ledger, Fault)>
     ensures { result ≡ new_ledger_from numbers.now }
 {
     if !are_numbers(numbers) {
-        return Err(Cause::InvalidState.at(0));
+        return Err((load_ledger(numbers), Cause::InvalidState.at(0)));
     }
     Ledger::fresh(
         numbers[0],
@@ -54,7 +54,7 @@ fn run_entries(numbers: &[u32], entries: &[u8]) -> Run
     ensures { result ≡ run_from numbers.now entries.now }
 {
     match start_ledger(numbers) {
-        Err(fault) => Run::stop(load_ledger(numbers), 0, 0, Err(fault)),
+        Err((ledger, fault)) => Run::stop(ledger, 0, 0, Err(fault)),
         Ok(ledger) => ledger.audit_entries(entries, MAX_RUN),
     }
 }
@@ -92,7 +92,7 @@ fn run_calls(numbers: &[u32], entries: &[u8]) -> Run
     ensures { result ≡ run_from numbers.now entries.now }
 {
     match start_ledger(numbers) {
-        Err(fault) => Run::stop(load_ledger(numbers), 0, 0, Err(fault)),
+        Err((ledger, fault)) => Run::stop(ledger, 0, 0, Err(fault)),
         Ok(ledger) => run_each(ledger, entries),
     }
 }
@@ -154,8 +154,10 @@ fn report_entries(
 ) -> Result<Report, Fault>
     ensures { result ≡ report_from numbers.now entries.now direction pool }
 {
-    start_ledger(numbers)?;
-    run_entries(numbers, entries).ledger.report(direction, pool)
+    match start_ledger(numbers) {
+        Err((_, fault)) => Err(fault),
+        Ok(_) => run_entries(numbers, entries).ledger.report(direction, pool),
+    }
 }
 
 // Credits held · 2^32 + messages open behind the entries, of one direction and pool, or cause · 2^48.

@@ -19,6 +19,11 @@ abbrev pub given : {A : Type 0} → Verdict → A → Result A Fault
 given (Ok _) a = Ok a
 given (Err fault) a = Err fault
 
+-- a either way, beside the fault where the verdict is one
+abbrev pub handed : {A : Type 0} → Verdict → A → Result A (A × Fault)
+handed (Ok _) a = Ok a
+handed (Err fault) a = Err (a, fault)
+
 -- a test, and the cause and place that its failure gives
 pub record Check : Type 0 where
   pub passes : Bool

@@ -14,7 +14,7 @@ use Rattle.reader.specs.Reading as reader
 use Rattle.writer.specs.Filling as writer
 use Rattle.demands.specs.Faults.{FormatFault, unknown}
 use Rattle.cause.specs.Order.{Named, None}
-use Rattle.cause.proofs.GivenLaws.{refused_as, accepted_as}
+use Rattle.cause.proofs.HandedLaws.{hands_refused, hands_accepted}
 use Rattle.cause.proofs.VerdictLaws.{verdict_of, verdict_refused, verdict_accepted}
 
 -- ---- a format
@@ -25,14 +25,14 @@ module _ (f : ℕ) where
   row_format : (j q : ℕ) → FormatFault f j q → (j ≡ 19) × (q ≡ 0) × (ltb f 2 ≡ false)
   row_format j q (unknown l) = (refl, refl, le-ltb f 2 l)
 
-  pub reader_refused : (k : Cause) (p : ℕ) → (reader.new_reader f ≡ Err (record { cause = k; place = p })) ↔ Named (FormatFault f) k p
-  reader_refused k p = refused_as (reader_with f []) (verdict_of (ltb f 2)) k p (verdict_refused (ltb f 2) (FormatFault f) format_row row_format k p)
+  pub reader_refused : (k : Cause) (p : ℕ) → (reader.new_reader f ≡ Err (reader_with f [], record { cause = k; place = p })) ↔ Named (FormatFault f) k p
+  reader_refused k p = hands_refused (reader_with f []) (verdict_of (ltb f 2)) k p (verdict_refused (ltb f 2) (FormatFault f) format_row row_format k p)
 
   pub reader_accepted : (reader.new_reader f ≡ Ok (reader_with f [])) ↔ None (FormatFault f)
-  reader_accepted = accepted_as (reader_with f []) (verdict_of (ltb f 2)) (verdict_accepted (ltb f 2) (FormatFault f) format_row row_format)
+  reader_accepted = hands_accepted (reader_with f []) (verdict_of (ltb f 2)) (verdict_accepted (ltb f 2) (FormatFault f) format_row row_format)
 
-  pub writer_refused : (k : Cause) (p : ℕ) → (writer.new_writer f ≡ Err (record { cause = k; place = p })) ↔ Named (FormatFault f) k p
-  writer_refused k p = refused_as (writer_with f []) (verdict_of (ltb f 2)) k p (verdict_refused (ltb f 2) (FormatFault f) format_row row_format k p)
+  pub writer_refused : (k : Cause) (p : ℕ) → (writer.new_writer f ≡ Err (writer_with f [], record { cause = k; place = p })) ↔ Named (FormatFault f) k p
+  writer_refused k p = hands_refused (writer_with f []) (verdict_of (ltb f 2)) k p (verdict_refused (ltb f 2) (FormatFault f) format_row row_format k p)
 
   pub writer_accepted : (writer.new_writer f ≡ Ok (writer_with f [])) ↔ None (FormatFault f)
-  writer_accepted = accepted_as (writer_with f []) (verdict_of (ltb f 2)) (verdict_accepted (ltb f 2) (FormatFault f) format_row row_format)
+  writer_accepted = hands_accepted (writer_with f []) (verdict_of (ltb f 2)) (verdict_accepted (ltb f 2) (FormatFault f) format_row row_format)

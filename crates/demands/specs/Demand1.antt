@@ -81,12 +81,12 @@ pub record TableOfCauses : Type 0 where
   pub list_refused : (l : List ℕ) → IsBytes l → (k : Cause) (p : ℕ) → (list_fault l ≡ Refused k p) ↔ Named (ListFault l) k p
   pub list_accepted : (l : List ℕ) → IsBytes l → (list_fault l ≡ Accepted) ↔ None (ListFault l)
   -- a new reader and a new writer, with any format number
-  pub reader_refused : (f : ℕ) (k : Cause) (p : ℕ) → (reader.new_reader f ≡ Err (record { cause = k; place = p })) ↔ Named (FormatFault f) k p
+  pub reader_refused : (f : ℕ) (k : Cause) (p : ℕ) → (reader.new_reader f ≡ Err (reader_with f [], record { cause = k; place = p })) ↔ Named (FormatFault f) k p
   pub reader_accepted : (f : ℕ) → (reader.new_reader f ≡ Ok (reader_with f [])) ↔ None (FormatFault f)
-  pub writer_refused : (f : ℕ) (k : Cause) (p : ℕ) → (writer.new_writer f ≡ Err (record { cause = k; place = p })) ↔ Named (FormatFault f) k p
+  pub writer_refused : (f : ℕ) (k : Cause) (p : ℕ) → (writer.new_writer f ≡ Err (writer_with f [], record { cause = k; place = p })) ↔ Named (FormatFault f) k p
   pub writer_accepted : (f : ℕ) → (writer.new_writer f ≡ Ok (writer_with f [])) ↔ None (FormatFault f)
   -- a new ledger, with any format number and any receivers
-  pub new_ledger_refused : (f : ℕ) (a b : Receiver) (k : Cause) (p : ℕ) → (new_ledger f a b ≡ Err (record { cause = k; place = p })) ↔ Named (FreshFault f a b) k p
+  pub new_ledger_refused : (f : ℕ) (a b : Receiver) (k : Cause) (p : ℕ) → (new_ledger f a b ≡ Err (fresh_ledger f a b, record { cause = k; place = p })) ↔ Named (FreshFault f a b) k p
   pub new_ledger_accepted : (f : ℕ) (a b : Receiver) → (new_ledger f a b ≡ Ok (fresh_ledger f a b)) ↔ None (FreshFault f a b)
   -- the report of any ledger, direction and pool number
   pub report_refused : (s : Ledger) (d p : ℕ) (k : Cause) (q : ℕ) → (reported s d p ≡ Err (record { cause = k; place = q })) ↔ Named (ReportFault s d p) k q

@@ -18,6 +18,7 @@ use Rattle.ledger.specs.Faults.{FreshFault, ReportFault}
 use Rattle.cause.specs.Order.{Named, None}
 use Rattle.cause.proofs.VerdictLaws.{verdict_of, verdict_refused, verdict_accepted}
 use Rattle.cause.proofs.GivenLaws.{refused_as, accepted_as}
+use Rattle.cause.proofs.HandedLaws.{hands_refused, hands_accepted}
 use Rattle.std.specs.Prelude.{Ok, Err}
 
 -- ---- a configuration
@@ -28,13 +29,13 @@ module _ (f : ℕ) (a b : Receiver) where
   row_opening : (j q : ℕ) → FreshFault f a b j q → (j ≡ 19) × (q ≡ 0) × (configured f a b ≡ false)
   row_opening j q (FreshFault.invalid n) = (refl, refl, not_true_false (configured f a b) (λ t. n ((configured_exactly f a b).0 t)))
 
-  pub new_ledger_refused : (k : Cause) (p : ℕ) → (new_ledger f a b ≡ Err (record { cause = k; place = p })) ↔ Named (FreshFault f a b) k p
+  pub new_ledger_refused : (k : Cause) (p : ℕ) → (new_ledger f a b ≡ Err (fresh_ledger f a b, record { cause = k; place = p })) ↔ Named (FreshFault f a b) k p
   new_ledger_refused k p =
-      refused_as (fresh_ledger f a b) (verdict_of (configured f a b)) k p (verdict_refused (configured f a b) (FreshFault f a b) opening_row row_opening k p)
+      hands_refused (fresh_ledger f a b) (verdict_of (configured f a b)) k p (verdict_refused (configured f a b) (FreshFault f a b) opening_row row_opening k p)
 
   pub new_ledger_accepted : (new_ledger f a b ≡ Ok (fresh_ledger f a b)) ↔ None (FreshFault f a b)
   new_ledger_accepted =
-      accepted_as (fresh_ledger f a b) (verdict_of (configured f a b)) (verdict_accepted (configured f a b) (FreshFault f a b) opening_row row_opening)
+      hands_accepted (fresh_ledger f a b) (verdict_of (configured f a b)) (verdict_accepted (configured f a b) (FreshFault f a b) opening_row row_opening)
 
 -- ---- a report
 module _ (s : Ledger) (d p : ℕ) where

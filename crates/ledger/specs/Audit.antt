@@ -1,7 +1,7 @@
 -- The audit (document 01, "Pools and the audit" and "Causes and places"): the ledger, its validity, and the audit of an entry.
 use Rattle.std.specs.Prelude.{ℕ, zero, suc, ◌+◌, ◌-◌, ◌*◌, Bool, true, ◌&&◌, List, [], ◌∷◌, ◌++◌, length, get_or, replicate, eqb, ltb, leb, Result}
 use Rattle.lists.specs.Pick.{pick}
-use Rattle.cause.specs.Checks.{Check, check, first_fault, when_accepted, given, Accepted, Refused}
+use Rattle.cause.specs.Checks.{Check, check, first_fault, when_accepted, given, handed, Accepted, Refused}
 use Rattle.cause.specs.declared.Fault.{Fault}
 use Rattle.cause.specs.declared.Cause.TheVariants.{InvalidState, ContainerLength, BegunOverGranted, GrantedOverCapacity}
 use Rattle.container.specs.Layout.{format_of, container_size}
@@ -129,9 +129,9 @@ fresh_ledger f a b = record {
 abbrev pub configured : ℕ → Receiver → Receiver → Bool
 configured f a b = ltb f 2 && (receiver_ok a && receiver_ok b)
 
--- a new ledger; a configuration that is none is 19
-abbrev pub new_ledger : ℕ → Receiver → Receiver → Result Ledger Fault
-new_ledger f a b = given (pick (configured f a b) Accepted (Refused InvalidState 0)) (fresh_ledger f a b)
+-- a new ledger; a configuration that is none is 19, beside a ledger that every step refuses
+abbrev pub new_ledger : ℕ → Receiver → Receiver → Result Ledger (Ledger × Fault)
+new_ledger f a b = handed (pick (configured f a b) Accepted (Refused InvalidState 0)) (fresh_ledger f a b)
 
 -- the report of direction d and pool p: granted minus begun, and begun minus finished; a direction or pool that is none, and a ledger that
 -- is not valid, are 19

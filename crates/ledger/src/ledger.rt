@@ -70,14 +70,19 @@ impl Ledger {
         }
     }
 
-    // A ledger of a format and two receivers, with nothing carried, held or open.
-    pub fn fresh(format: u32, receiver0: Receiver, receiver1: Receiver) -> Result<Ledger, Fault>
+    // A ledger of a format and two receivers, with nothing carried, held or open; what is no configuration is refused, beside the ledger of it.
+    pub fn fresh(
+        format: u32,
+        receiver0: Receiver,
+        receiver1: Receiver,
+    ) -> Result<Ledger, (Ledger, Fault)>
         ensures { result ≡ new_ledger format receiver0 receiver1 }
     {
+        let ledger = Ledger::empty(format, receiver0, receiver1);
         if !is_configured(format, receiver0, receiver1) {
-            return Err(Cause::InvalidState.at(0));
+            return Err((ledger, Cause::InvalidState.at(0)));
         }
-        Ok(Ledger::empty(format, receiver0, receiver1))
+        Ok(ledger)
     }
 
     // The receiver of a direction.

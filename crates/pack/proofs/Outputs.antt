@@ -8,7 +8,7 @@ use native.Mathlib.Omega.{arith}
 use lib.ListN.{length, take, drop}
 use lib.Dec.{ltb}
 use borrow.Author.Tests.{ltb-true}
-use Rattle.std.specs.Prelude.{Ok, Err, Option, Some, None, ok_or}
+use Rattle.std.specs.Prelude.{Result, Ok, Err, Option, Some, None, ok_or}
 use Rattle.lists.specs.Parts.{IsBytes}
 use Rattle.lists.proofs.PartLaws.{rest_is}
 use Rattle.lists.proofs.Tests.{cases}
@@ -26,6 +26,11 @@ use Rattle.pack.specs.Packing.{list_output, output_behind, pack_output, Written}
 faulty : (out d : List ℕ) (found fault : Fault) → out ≡ refusal_line found.cause found.place → found ≡ fault → Written out d d (Err fault)
 faulty out d found fault e same = (e ∙ ap (λ (x : Fault). refusal_line x.cause x.place) same, refl)
 
+-- the fault beside a writer, and that of a number that is no format where there is none
+told : Result Writer (Writer × Fault) → Fault
+told (Ok _) = record { cause = InvalidState; place = 0 }
+told (Err (_, fault)) = fault
+
 module _ (l d : List ℕ) where
   behind : (r : Option Number) → r ≡ read_number l → pack_output l ≡ output_behind l r
   unfolding pack_output
@@ -39,8 +44,9 @@ module _ (l d : List ℕ) where
 
   module _ (number : Number) (er : Some number ≡ read_number l) where
     -- a format that is none
-    pub no_format : (fault : Fault) → Err fault ≡ new_writer number.value → Written (pack_output l) d d (Err fault)
-    no_format fault e = ⊎_elim good bad (cases (ltb number.value 2))
+    pub no_format : (w : Writer) (fault : Fault) → Err (w, fault) ≡ new_writer number.value → Written (pack_output l) d d (Err fault)
+    unfolding told
+    no_format w fault e = ⊎_elim good bad (cases (ltb number.value 2))
       where
         good : ltb number.value 2 ≡ true → Written (pack_output l) d d (Err fault)
         good t = let f = rw t at e in let z : ◌≡◌ {A = ℕ} 0 1 = cc in absurd (omega arith)
@@ -48,7 +54,7 @@ module _ (l d : List ℕ) where
         bad : ltb number.value 2 ≡ false → Written (pack_output l) d d (Err fault)
         bad t =
             let f = rw t at e in
-            let same : record { cause = InvalidState; place = 0 } ≡ fault = cc in
+            let same : record { cause = InvalidState; place = 0 } ≡ fault = ap told (sym f) in
             faulty (pack_output l) d (record { cause = InvalidState; place = 0 }) fault (behind (Some number) er ∙ rw t) same
 
     module _ (w : Writer) (e : Ok w ≡ new_writer number.value) where

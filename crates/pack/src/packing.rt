@@ -71,8 +71,10 @@ fn pack_input(input: &[u8], room: &mut [u8]) -> Result<usize, Fault>
     ensures { Written (pack_output input.now) room.old room.new result }
 {
     let Number { value, used } = read_number(input).ok_or(Cause::BrokenRecord.at(0))?;
-    let writer = Writer::fresh(value)?;
-    pack_list(writer, &input[used..], room)
+    match Writer::fresh(value) {
+        Err((_, fault)) => Err(fault),
+        Ok(writer) => pack_list(writer, &input[used..], room),
+    }
 }
 
 // Writes the output for an input at the front of the room, and answers how many bytes it wrote; a room that not every output fits is

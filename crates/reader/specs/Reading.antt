@@ -2,7 +2,7 @@
 use Rattle.std.specs.Prelude.{ℕ, Bool, ◌&&◌, List, [], ◌∷◌, ◌++◌, length, take, drop, eqb, ltb, leb, Result, Ok, Err}
 use Rattle.lists.specs.Pick.{pick}
 use Rattle.lists.specs.Parts.{zeros, pad, put}
-use Rattle.cause.specs.Checks.{Check, check, first_fault, when_accepted, given, Verdict, Accepted, Refused}
+use Rattle.cause.specs.Checks.{Check, check, first_fault, when_accepted, handed, Verdict, Accepted, Refused}
 use Rattle.cause.specs.declared.Fault.{Fault}
 use Rattle.cause.specs.declared.Cause.TheVariants.{ContainerLength, RoomTooSmall, InvalidState}
 use Rattle.container.specs.Layout.{format_of, msg_start, container_size, granules}
@@ -44,9 +44,9 @@ reader_ok s = ltb s.format 2 && valid_carry s.carry
 abbrev pub reader_with : ℕ → List ℕ → Reader
 reader_with f m = record { format = f; carry = carry_with m }
 
--- a reader's start: nothing carried; a format that is none is 19
-abbrev pub new_reader : ℕ → Result Reader Fault
-new_reader f = given (pick (ltb f 2) Accepted (Refused InvalidState 0)) (reader_with f [])
+-- a reader's start: nothing carried; a format that is none is 19, beside a reader that every step refuses
+abbrev pub new_reader : ℕ → Result Reader (Reader × Fault)
+new_reader f = handed (pick (ltb f 2) Accepted (Refused InvalidState 0)) (reader_with f [])
 
 -- the least room of a reading
 abbrev pub room_size : ℕ

@@ -59,14 +59,15 @@ impl Reader {
         }
     }
 
-    // A reader of a format, with nothing carried.
-    pub fn fresh(format: u32) -> Result<Reader, Fault>
+    // A reader of a format, with nothing carried; a number that is no format is refused, beside the reader of it.
+    pub fn fresh(format: u32) -> Result<Reader, (Reader, Fault)>
         ensures { result ≡ new_reader format }
     {
+        let reader = Reader::empty(format);
         if FORMATS <= format {
-            return Err(Cause::InvalidState.at(0));
+            return Err((reader, Cause::InvalidState.at(0)));
         }
-        Ok(Reader::empty(format))
+        Ok(reader)
     }
 
     // Whether the state is valid.

@@ -109,7 +109,7 @@ impl Unpacker {
             return self.conclude(Err(Cause::BrokenRecord.at(0)), room);
         };
         match Reader::fresh(value) {
-            Err(fault) => self.conclude(Err(fault), room),
+            Err((_, fault)) => self.conclude(Err(fault), room),
             Ok(reader) => Unpacked {
                 unpacker: Unpacker {
                     reader,

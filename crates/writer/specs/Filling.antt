@@ -2,7 +2,7 @@
 use Rattle.std.specs.Prelude.{ℕ, ◌%◌, Bool, ◌&&◌, List, [], ◌∷◌, length, take, drop, eqb, ltb, leb, Result, Ok, Err}
 use Rattle.lists.specs.Pick.{pick}
 use Rattle.lists.specs.Parts.{zeros, pad}
-use Rattle.cause.specs.Checks.{Check, check, first_fault, when_accepted, given, or_else, Verdict, Accepted, Refused}
+use Rattle.cause.specs.Checks.{Check, check, first_fault, when_accepted, handed, or_else, Verdict, Accepted, Refused}
 use Rattle.cause.specs.declared.Fault.{Fault}
 use Rattle.cause.specs.declared.Cause.TheVariants.{ContainerLength, HeaderGrantForm, TooLong, InvalidState}
 use Rattle.container.specs.Layout.{format_of, container_size}
@@ -27,9 +27,9 @@ writer_ok w = ltb w.format 2 && (leb w.len 100 && (eqb (w.len % 20) 0 && zeros (
 abbrev pub writer_with : ℕ → List ℕ → Writer
 writer_with f t = record { format = f; tail = pad 100 t; len = length t }
 
--- a writer's start: nothing owed; a format that is none is 19
-abbrev pub new_writer : ℕ → Result Writer Fault
-new_writer f = given (pick (ltb f 2) Accepted (Refused InvalidState 0)) (writer_with f [])
+-- a writer's start: nothing owed; a format that is none is 19, beside a writer that every step refuses
+abbrev pub new_writer : ℕ → Result Writer (Writer × Fault)
+new_writer f = handed (pick (ltb f 2) Accepted (Refused InvalidState 0)) (writer_with f [])
 
 -- 19, 1, 18, 4: for a list of so many bytes and a container of so many
 unfoldable pub call_checks : Writer → ℕ → Grant → ℕ → List Check

@@ -72,14 +72,15 @@ impl Writer {
         }
     }
 
-    // A writer of a format, with nothing owed.
-    pub fn fresh(format: u32) -> Result<Writer, Fault>
+    // A writer of a format, with nothing owed; a number that is no format is refused, beside the writer of it.
+    pub fn fresh(format: u32) -> Result<Writer, (Writer, Fault)>
         ensures { result ≡ new_writer format }
     {
+        let writer = Writer::empty(format);
         if FORMATS <= format {
-            return Err(Cause::InvalidState.at(0));
+            return Err((writer, Cause::InvalidState.at(0)));
         }
-        Ok(Writer::empty(format))
+        Ok(writer)
     }
 
     // Whether the state is valid.

@@ -6,7 +6,7 @@ pub run_each-requires : goal.run_each-requires
 run_each-requires c = created_valid c.args.numbers.now _ (sym c.in-Ok.is ∙ c.start_ledger.ensures)
 
 pub returns-in-Err : goal.returns-in-Err
-returns-in-Err c = rw (c.stop.ensures, c.load_ledger.ensures) (run_refused c.args.numbers.now c.args.entries.now _ (sym c.in-Err.is ∙ c.start_ledger.ensures))
+returns-in-Err c = rw c.stop.ensures (run_refused c.args.numbers.now c.args.entries.now _ _ (sym c.in-Err.is ∙ c.start_ledger.ensures))
 
 pub returns-in-Ok : goal.returns-in-Ok
 returns-in-Ok c = c.run_each.ensures ∙ run_accepted c.args.numbers.now c.args.entries.now _ (sym c.in-Ok.is ∙ c.start_ledger.ensures)

@@ -30,7 +30,7 @@ fn beginnings(format: u32) -> impl Iterator<Item = [u8; CONTAINER]> {
 
 /// The fresh reader first, then those that carry a message.
 pub fn readers(format: u32) -> Vec<Reader> {
-    let fresh = Reader::fresh(format).expect("a format");
+    let fresh = Reader::fresh(format).ok().expect("a format");
     let carrying =
         beginnings(format).map(|container| fresh.judge(&container).reader).filter(|reader| reader.carry.len > 0);
     once(fresh).chain(carrying).collect()
@@ -46,6 +46,7 @@ fn behind(ledger: Ledger, direction: u32) -> Vec<Ledger> {
 /// The ledger that carries nothing first, then those that carry a message in one direction or in both.
 pub fn ledgers(format: u32) -> Vec<Ledger> {
     let receiver = Receiver { planes: 8, push: true, capacities: [8; POOLS] };
-    let fresh = Ledger { held: [4; DIRECTIONS * POOLS], ..Ledger::fresh(format, receiver, receiver).expect("a ledger") };
+    let fresh =
+        Ledger { held: [4; DIRECTIONS * POOLS], ..Ledger::fresh(format, receiver, receiver).ok().expect("a ledger") };
     behind(fresh, 0).into_iter().flat_map(|ledger| behind(ledger, 1)).collect()
 }

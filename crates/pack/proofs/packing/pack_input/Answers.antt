@@ -7,7 +7,7 @@ use Rattle.std.specs.Prelude.{Some}
 use Rattle.std.proofs.lemmas.Result.{err_from_is_err_and}
 use Rattle.record.specs.Number.{read_number}
 use Rattle.pack.specs.Packing.{Written}
-use Rattle.pack.proofs.Outputs.{no_number, no_format, list_asks, list_is, number_within}
+use Rattle.pack.proofs.Outputs.{no_number, no_format, list_is, number_within}
 use Rattle.pack.proofs.packing.pack_input.Goals.{In_ok-value}
 use Rattle.pack.proofs.packing.pack_input.Goals as goal
 
@@ -21,10 +21,8 @@ returns-in_err-value c =
 found : (c : In_ok-value) → Some c.in_ok-value.field-0 ≡ read_number c.args.input.now
 found c = sym c.in_ok-value.ensures.ok_part ∙ c.read_number.ensures
 
-pub returns-in_err-writer : goal.returns-in_err-writer
-returns-in_err-writer c =
-    let p = err_from_is_err_and c.from_residual-in_err-writer.result c.from_residual-in_err-writer.ensures.1 in
-    rw (p.1, p.2) (no_format c.args.input.now c.args.room.now _ (found (goal.at.returns-in_err-writer c).In_ok-value) _ c.in_err-writer.ensures)
+pub returns-in-Err : goal.returns-in-Err
+returns-in-Err c = no_format c.args.input.now c.args.room.now _ (found (goal.at.returns-in-Err c).In_ok-value) _ _ (sym c.in-Err.is ∙ c.fresh.ensures)
 
 within : (c : In_ok-value) → c.in_ok-value.field-0.used ≤ length c.args.input.now
 within c = number_within c.args.input.now c.args.room.now _ (found c) (λ i. (c.type_inv.input i).fits)
@@ -35,7 +33,7 @@ slice_bounds-pack_list-count c = within (goal.at.slice_bounds-pack_list-count c)
 pub slice_bounds-pack_list-start : goal.slice_bounds-pack_list-start
 slice_bounds-pack_list-start c = let h = within (goal.at.slice_bounds-pack_list-start c).In_ok-value in search rules
 
-pub returns : goal.returns
-returns c =
+pub returns-in-Ok : goal.returns-in-Ok
+returns-in-Ok c =
     subst (λ (out : List ℕ). Written out c.args.room.now c.pack_list.new.room c.pack_list.result)
-    (list_is c.args.input.now c.args.room.now _ (found (goal.at.returns c).In_ok-value) _ c.in_ok-writer.ensures) c.pack_list.ensures
+    (list_is c.args.input.now c.args.room.now _ (found (goal.at.returns-in-Ok c).In_ok-value) _ (sym c.in-Ok.is ∙ c.fresh.ensures)) c.pack_list.ensures
