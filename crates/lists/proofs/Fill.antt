@@ -56,6 +56,9 @@ pub record Copied (t d₀ d : List ℕ) (i : ℕ) : Type 0 where
   pub is : d ≡ grown t d₀ i
   pub long : length d ≡ length d₀
 
+pub copied_none : (t d : List ℕ) → Copied t d d 0
+copied_none t d = record { within = omega arith; is = refl; long = refl }
+
 module _ (t d₀ d : List ℕ) (i : ℕ) (h : Copied t d₀ d i) where
   pub copied_more : length t ≤ length d₀ → i < length t → (b : ℕ) → b ≡ get_or t i 0 → Copied t d₀ (set d i b) (i + 1)
   copied_more room l b e =

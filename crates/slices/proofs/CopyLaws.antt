@@ -1,13 +1,14 @@
 -- A part copied byte by byte into a list from an offset on, and zeros written over a list. Assumes nothing.
 use Prim.Native.Nat.{ℕ, ◌+◌, ◌-◌, ◌≤◌, ◌<◌, min}
-use mathlib.Core.Path.{◌≡◌, sym, ap, ◌∙◌, subst}
-use mathlib.Core.List.{List}
+use mathlib.Core.Path.{◌≡◌, refl, sym, ap, ◌∙◌, subst}
+use mathlib.Core.List.{List, ◌++◌}
 use native.Mathlib.Omega.{arith}
 use lib.ListN.{length, get_or, take, drop, set, replicate}
-use lib.ListN.{length-take, length-drop, length-set, length-replicate}
+use lib.ListN.{length-take, length-drop, length-set, length-replicate, take-append-drop}
 use lib.Seq.{take_all, get_or-take, take-set-le, drop-set-add}
 use Rattle.lists.specs.Parts.{put, pad}
-use Rattle.lists.proofs.Fill.{put_zeros, Copied, copied_more}
+use Rattle.lists.proofs.PartLaws.{put_part}
+use Rattle.lists.proofs.Fill.{put_zeros, Copied, copied_none, copied_more, copied_all}
 
 -- l with a part x copied into it from an offset on, as much of it as there is room for
 abbrev pub copied_into : ℕ → List ℕ → List ℕ → List ℕ
@@ -28,6 +29,9 @@ pub record Copying (d₀ : List ℕ) (at : ℕ) (x d : List ℕ) (i : ℕ) : Typ
   pub behind : Copied (take (length d₀ - at) x) (drop at d₀) (drop at d) i
   pub long : length d ≡ length d₀
 
+pub copying_none : (d : List ℕ) (at : ℕ) (x : List ℕ) → Copying d at x d 0
+copying_none d at x = record { before = refl; behind = copied_none (take (length d - at) x) (drop at d); long = refl }
+
 module _ (d₀ : List ℕ) (at : ℕ) (x d : List ℕ) (i : ℕ) (h : Copying d₀ at x d i) where
   abbrev fitting : List ℕ
   fitting = take (length d₀ - at) x
@@ -47,3 +51,11 @@ module _ (d₀ : List ℕ) (at : ℕ) (x d : List ℕ) (i : ℕ) (h : Copying d�
             (copied_more fitting (drop at d₀) (drop at d) i h.behind (omega arith) (omega arith) (get_or x i 0) b);
         long = length-set d (at + i) (get_or x i 0) ∙ h.long;
       }
+
+  -- all bytes
+  pub copying_all : min (length d₀ - at) (length x) ≤ i → d ≡ copied_into at x d₀
+  copying_all l =
+      let n = fitting_length in
+      sym (take-append-drop at d) ∙ ap (λ (r : List ℕ). r ++ drop at d) h.before
+      ∙ ap (λ (r : List ℕ). take at d₀ ++ r) (copied_all fitting (drop at d₀) (drop at d) i h.behind (omega arith))
+      ∙ put_part at fitting d₀

@@ -1,15 +1,16 @@
 -- The test that all bytes are zero, by numbers that are zero exactly where some of the bytes are. Assumes nothing.
-use Prim.Native.Nat.{ℕ, ◌+◌, ◌-◌, ◌*◌, ◌≤◌, ◌<◌}
+use Prim.Native.Nat.{ℕ, zero, suc, ◌+◌, ◌-◌, ◌*◌, ◌^◌, ◌≤◌, ◌<◌}
 use mathlib.Core.Path.{◌≡◌, refl, sym, ap, ◌∙◌}
-use mathlib.Core.Bool.{true, ◌&&◌}
+use mathlib.Core.Bool.{true, ◌&&◌, and-true}
 use mathlib.Core.List.{List}
 use native.Mathlib.Omega.{arith}
-use native.Mathlib.Nat.{mul-le-mul_right, mul-zero}
-use lib.ListN.{length, take, drop, length-drop}
-use lib.Seq.{drop-drop, take-add, take_all}
+use native.Mathlib.Nat.{mul-le-mul_right, mul-zero, mul_comm, one-le-pow}
+use lib.ListN.{length, get_or, take, drop, length-drop}
+use lib.Seq.{drop-drop, drop-cons, take-add, take_all}
 use lib.Dec.{eqb}
 use lib.Bits.{bit_or, or_add_and, and_le_l, and_le_r}
 use borrow.Author.Tests.{eq-eqb, eqb-true}
+use Rattle.std.specs.Int.{sum_through, byte_worth}
 use Rattle.lists.specs.Parts.{part, zeros}
 use Rattle.lists.proofs.Tests.{and_left, and_right, and_both, same_test}
 use Rattle.lists.proofs.ZeroLaws.{zeros_split, zeros_append}
@@ -40,6 +41,27 @@ pub joined_zero : (l : List ℕ) (at n k r s z : ℕ) → eqb r 0 ≡ zeros (par
     → eqb z 0 ≡ (eqb r 0 && eqb s 0) → eqb z 0 ≡ zeros (part at (n + k) l)
 joined_zero l at n k r s z er es ez =
     ez ∙ rw (er, es, ← drop-drop n at l) (sym (ap zeros (take-add n k (drop at l)) ∙ zeros_append (take n (drop at l)) (take k (drop n (drop at l)))))
+
+-- a byte
+pub byte_zero : (l : List ℕ) (at : ℕ) → at < length l → eqb (get_or l at 0) 0 ≡ zeros (part at 1 l)
+byte_zero l at h = rw (drop-cons l at 0 h) (sym (and-true (eqb (get_or l at 0) 0)))
+
+-- the first k + 1 bytes as one number, the lowest first, each of the others by its weight
+spelled_zero : (l : List ℕ) (k : ℕ) → k < length l → eqb (sum_through (λ i. byte_worth i (get_or l i 0)) k) 0 ≡ zeros (part 0 (k + 1) l)
+spelled_zero l zero h = byte_zero l 0 h
+spelled_zero l (suc k) h =
+    let low = sum_through (λ i. byte_worth i (get_or l i 0)) k in
+    let b = get_or l (suc k) 0 in
+    let w = 256 ^ suc k in
+    let next : suc k ≡ 0 + (k + 1) = omega arith in
+    let size : k + 1 + 1 ≡ suc k + 1 = omega arith in
+    let top : eqb b 0 ≡ zeros (part (0 + (k + 1)) 1 l) = byte_zero l (suc k) h ∙ ap (λ (n : ℕ). zeros (part n 1 l)) next in
+    let both : eqb (low + b * w) 0 ≡ (eqb low 0 && eqb b 0) = rw (mul_comm b w) (weighted_zero w low b (one-le-pow (suc k) 256 (omega arith))) in
+    joined_zero l 0 (k + 1) 1 low b (low + b * w) (spelled_zero l k (omega arith)) top both ∙ ap (λ (n : ℕ). zeros (part 0 n l)) size
+
+-- the bytes of a list as one number
+pub number_zero : (l : List ℕ) (k z : ℕ) → length l ≡ k + 1 → z ≡ sum_through (λ i. byte_worth i (get_or l i 0)) k → eqb z 0 ≡ zeros l
+number_zero l k z n e = rw e (spelled_zero l k (omega arith) ∙ ap zeros (take_all (k + 1) l (omega arith)))
 
 -- the bytes before an offset and those behind it
 zeros_take : (l : List ℕ) (k : ℕ) → zeros l ≡ true → zeros (take k l) ≡ true

@@ -8,7 +8,9 @@ pub fn copy_into(out: &mut [u8], at: usize, part: &[u8])
 {
     if at < out.len() {
         let n = part.len().min(out.len() - at);
-        out[at..at + n].copy_from_slice(&part[..n]);
+        for i in 0..n {
+            out[at + i] = part[i];
+        }
     }
 }
 

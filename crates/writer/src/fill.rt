@@ -5,6 +5,7 @@ ghost use Rattle.container.specs.Layout.{format_of, start};
 ghost use Rattle.writer.specs.Laying.{header_bytes, set_all};
 
 use container::{CONTAINER, Grant, locate_granule, locate_header, measure_granule};
+use slices::{clear, copy_into};
 
 // The bytes of a protocol header.
 const HEADER: usize = 10;
@@ -15,8 +16,8 @@ fn copy_and_zero(part: &mut [u8], src: &[u8])
     ensures { part.new ≡ pad (length part.old) src.now }
 {
     let (front, rest) = part.split_at_mut(src.len());
-    front.copy_from_slice(src);
-    rest.fill(0);
+    copy_into(front, 0, src);
+    clear(rest);
 }
 
 // Fills granule g with src and zeros behind it.
