@@ -12,8 +12,7 @@ fn fits_in(format: u32, g: u8, msgtype: u8, op: u8) -> bool
     ensures { result ≡ fits_in (format_of format) g msgtype op }
 {
     let size = measure_granule(format, g);
-    let is_short = msgtype == RESP || msgtype == MISC_U;
-    size == WIDE || is_short && measure_code(msgtype, op) <= size
+    size == WIDE || (msgtype == RESP || msgtype == MISC_U) && measure_code(msgtype, op) <= size
 }
 
 // Whether the rule that LinkStatus goes only in G0 is kept.

@@ -18,7 +18,6 @@ use Rattle.placement.specs.Cells.{Cell, cell_at, after, cells}
 use Rattle.placement.specs.Checking.{header_checks, granule_checks, group_checks, activation_checks, container_checks}
 use Rattle.reader.specs.TrackingMirror.{track_of, track_at, marks_of, mark_checks, activation_marks, behind_granules, scanned, looked}
 use Rattle.reader.specs.declared.track.Track.{Track}
-use Rattle.reader.specs.declared.scan.Scan.{Scan}
 use Rattle.reader.proofs.MarkLaws.{groups_of, activations_of}
 use Rattle.cause.proofs.GivenLaws.{given_fault, given_fine}
 use Rattle.std.specs.Prelude.{Result, Ok, Err}
@@ -78,17 +77,17 @@ module _ (f : ℕ) (c m : List ℕ) where
     pub granules_fail : {fault : Fault} → Err fault ≡ scanned f c m → ◌≡◌ {A = Result Track Fault} (Err fault) (looked f c m)
     granules_fail e = rw (parts_joined s, given_fault _ _ (sym e))
 
-    module _ {r : Scan} (e : Ok r ≡ scanned f c m) {grant : Grant} (eg : grant ≡ header_grant (format_of f) c) where
-      fine : (first_fault (granule_checks (format_of f) 0 es) ≡ Accepted) × (r ≡ record { marks = marks_of es; track = track_at (format_of f) c (msg_start (format_of f) c) (track_of m) 12 })
+    module _ {marks : List ℕ} {track : Track} (e : Ok (marks, track) ≡ scanned f c m) {grant : Grant} (eg : grant ≡ header_grant (format_of f) c) where
+      fine : (first_fault (granule_checks (format_of f) 0 es) ≡ Accepted) × ◌≡◌ {A = List ℕ × Track} (marks, track) (marks_of es, track_at (format_of f) c (msg_start (format_of f) c) (track_of m) 12)
       fine = given_fine _ _ (sym e)
 
-      left_by_marks : first_fault (container_checks (format_of f) c es) ≡ first_fault (behind_granules grant r.marks)
+      left_by_marks : first_fault (container_checks (format_of f) c es) ≡ first_fault (behind_granules grant marks)
       left_by_marks =
           (parts_joined s ∙ rw fine.0)
-          ∙ sym ((λ i. first_fault (behind_granules (eg i) (fine.1 i).marks)) ∙ behind_same (format_of f) c es (length_cells (format_of f) c 12 0 m))
+          ∙ sym ((λ i. first_fault (behind_granules (eg i) (fine.1 i).0)) ∙ behind_same (format_of f) c es (length_cells (format_of f) c 12 0 m))
 
-      pub marks_fail : {fault : Fault} → Err fault ≡ first_fault (behind_granules grant r.marks) → ◌≡◌ {A = Result Track Fault} (Err fault) (looked f c m)
+      pub marks_fail : {fault : Fault} → Err fault ≡ first_fault (behind_granules grant marks) → ◌≡◌ {A = Result Track Fault} (Err fault) (looked f c m)
       marks_fail b = rw (left_by_marks, ← b)
 
-      pub marks_fine : Accepted ≡ first_fault (behind_granules grant r.marks) → ◌≡◌ {A = Result Track Fault} (Ok r.track) (looked f c m)
-      marks_fine b = rw (left_by_marks, ← b) (λ i. Ok (fine.1 i).track)
+      pub marks_fine : Accepted ≡ first_fault (behind_granules grant marks) → ◌≡◌ {A = Result Track Fault} (Ok track) (looked f c m)
+      marks_fine b = rw (left_by_marks, ← b) (λ i. Ok (fine.1 i).1)

@@ -23,7 +23,6 @@ use Rattle.placement.proofs.Keeps.{progress, cell_of}
 use Rattle.reader.specs.TrackingMirror.{track_of, track_by, track_after, track_at, mark_of, marks_of, cell_from, cell_answer_of, cell_answer, scanned}
 use Rattle.reader.specs.declared.track.Track.{Track}
 use Rattle.reader.specs.declared.cell.Granule.{Granule}
-use Rattle.reader.specs.declared.scan.Scan.{Scan}
 use Rattle.placement.proofs.ProgressLaws.{list_from, cells_of}
 use Rattle.reader.proofs.TrackLaws.{follows}
 use Rattle.std.specs.Prelude.{Result, Ok, Err}
@@ -144,7 +143,7 @@ module _ (f : ℕ) (c m : List ℕ) {marks : List ℕ} {track : Track} (g : ℕ)
   fault_is : first_fault (granule_checks (format_of f) 0 (cells (format_of f) c 12 0 m)) ≡ then found g (fault_from (format_of f) c m (g + 1))
   fault_is = i.same ∙ fault_at (format_of f) c m g b ∙ ap (λ (x : Result Granule Cause). then x g (fault_from (format_of f) c m (g + 1))) (sym found_is)
 
-  pub scan_stops : {k : Cause} → found ≡ Err k → ◌≡◌ {A = Result Scan Fault} (Err (record { cause = k; place = g })) (scanned f c m)
+  pub scan_stops : {k : Cause} → found ≡ Err k → ◌≡◌ {A = Result (List ℕ × Track) Fault} (Err (record { cause = k; place = g })) (scanned f c m)
   scan_stops e = rw (rw e at fault_is)
 
   track_is : {r : Granule} → found ≡ Ok r → {st : Bool} → st ≡ bit w g → track_by (format_of f) g st r.size track ≡ track_after (format_of f) c w g track
@@ -162,12 +161,12 @@ module _ (f : ℕ) (c m : List ℕ) {marks : List ℕ} {track : Track} (g : ℕ)
     same = rw e at fault_is;
   }
 
-pub scan_ends : (f : ℕ) (c m : List ℕ) {marks : List ℕ} {track : Track} (g : ℕ) → 12 ≤ g → Scanning f c m marks track g → ◌≡◌ {A = Result Scan Fault} (Ok (record { marks = marks; track = track })) (scanned f c m)
+pub scan_ends : (f : ℕ) (c m : List ℕ) {marks : List ℕ} {track : Track} (g : ℕ) → 12 ≤ g → Scanning f c m marks track g → ◌≡◌ {A = Result (List ℕ × Track) Fault} (Ok (marks, track)) (scanned f c m)
 scan_ends f c m {marks} {track} g h i =
     let e : g ≡ 12 = let k = i.within in omega arith in
     let j : Scanning f c m marks track 12 = rw e at i in
     let all = j.grows ∙ marks_all (format_of f) c m in
-    rw (j.same ∙ fault_end (format_of f) c m) (λ k. Ok (record { marks = all k; track = j.follows k }))
+    rw (j.same ∙ fault_end (format_of f) c m) (λ k. Ok (all k, j.follows k))
 
 -- a result whose error alone is changed
 pub ok_was : (r : Result Granule Cause) {x : Granule} → MatchResult r (λ y. ◌≡◌ {A = Result Granule Fault} (Ok x) (Ok y)) (λ k. ⊥) → r ≡ Ok x

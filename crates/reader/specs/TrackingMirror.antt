@@ -14,7 +14,6 @@ use Rattle.placement.specs.Cells.{Cell, owed, cells}
 use Rattle.placement.specs.Checking.{populated, starting, activations, cell_checks, granule_checks, container_checks}
 use Rattle.reader.specs.declared.track.Track.{Track}
 use Rattle.reader.specs.declared.cell.Granule.{Granule}
-use Rattle.reader.specs.declared.scan.Scan.{Scan}
 
 -- a carried message m: all that was read of it is kept, and it goes on from granule 0
 abbrev pub track_of : List ℕ → Track
@@ -111,11 +110,11 @@ abbrev pub marks_of : List Cell → List ℕ
 marks_of [] = []
 marks_of (e ∷ es) = mark_of e ∷ marks_of es
 
--- what a scan of the granules gives: the first fault of a granule, or the marks and the message in progress
-abbrev pub scanned : ℕ → List ℕ → List ℕ → Result Scan Fault
+-- what the granules give: the first fault of one, or their marks and the message in progress
+abbrev pub scanned : ℕ → List ℕ → List ℕ → Result (List ℕ × Track) Fault
 scanned f c m =
     given (first_fault (granule_checks (format_of f) 0 (cells (format_of f) c 12 0 m)))
-    (record { marks = marks_of (cells (format_of f) c 12 0 m); track = track_at (format_of f) c (msg_start (format_of f) c) (track_of m) 12 })
+    (marks_of (cells (format_of f) c 12 0 m), track_at (format_of f) c (msg_start (format_of f) c) (track_of m) 12)
 
 -- what judging a whole container gives: its first fault, or the message in progress
 abbrev pub looked : ℕ → List ℕ → List ℕ → Result Track Fault

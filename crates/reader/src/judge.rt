@@ -9,7 +9,7 @@ use crate::contents::Contents;
 use crate::group::{MARKS, has_activation, judge_groups};
 use crate::track::Track;
 use cause::{Cause, Fault, Verdict};
-use container::{allows_plane, has_counts, keeps_reserved};
+use container::{GRANULES, allows_plane, has_counts, keeps_reserved, starts_at};
 
 impl Contents<'_> {
     // The header: causes 3 and 4.
@@ -37,13 +37,20 @@ impl Contents<'_> {
         Ok(())
     }
 
-    // The message in progress behind a container, or its first fault.
+    // The message in progress behind a container, or the first fault of its header, its granules upwards, and their groups.
     pub(crate) fn judge_container(self) -> Result<Track, Fault>
         ensures { result ≡ looked self.entry.format self.entry.container.now self.entry.carry.now }
     {
         self.judge_header()?;
-        let scan = self.scan_granules()?;
-        self.judge_marks(scan.marks)?;
-        Ok(scan.track)
+        let mut marks = [0u8; MARKS];
+        let mut track = Track::carried(self.carry);
+        for g in 0..GRANULES {
+            let judged = self.judge_cell(track.owed, g);
+            let granule = judged.map_err(|cause| cause.at(g as u64))?;
+            marks[g as usize] = granule.mark;
+            track = track.follow(self.format, g, starts_at(self.msgstart, g), granule.size);
+        }
+        self.judge_marks(marks)?;
+        Ok(track)
     }
 }

@@ -9,7 +9,6 @@ mod group;
 mod judge;
 mod reader;
 mod records;
-mod scan;
 mod track;
 
 pub use carry::Carry;
