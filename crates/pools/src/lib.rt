@@ -13,5 +13,5 @@ pub use begun::tally_begun;
 pub use granted::tally_granted;
 pub use kinds::{Credits, Slots, fit_together};
 pub use receiver::{MAX_CAPACITY, MAX_PLANES, POOLS, Receiver};
-pub use table::{ROW, TABLE, flatten, nest};
+pub use table::{ROW, TABLE, flatten, nest, take_row};
 pub use tally::count_carry;
