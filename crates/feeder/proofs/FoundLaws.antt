@@ -33,14 +33,13 @@ chosen false n = refl
 
 -- what is read behind a position
 module _ (w : Waiting) (l : List ℕ) (at : ℕ) (r : First) (e : r ≡ first_of (take (length l - at) (drop at l))) where
-  pub found_nothing : ((start end : ℕ) → r ≡ Whole start end → ⊥) → None ≡ found_at w l at
+  pub found_empty : r ≡ Empty → None ≡ found_at w l at
   unfolding found_at
-  found_nothing none = by r refl
-    where
-      by : (f : First) → r ≡ f → None ≡ judged w l at (first_of (drop at l))
-      by Empty q = rw (found l at r Empty e q)
-      by Bad q = rw (found l at r Bad e q)
-      by (Whole start end) q = absurd (none start end q)
+  found_empty q = rw (found l at r Empty e q)
+
+  pub found_bad : r ≡ Bad → None ≡ found_at w l at
+  unfolding found_at
+  found_bad q = rw (found l at r Bad e q)
 
   module _ (h : at ≤ length l) (start end : ℕ) (q : r ≡ Whole start end) where
     pub whole_within : (at + start ≤ length l) × (at + end ≤ length l)

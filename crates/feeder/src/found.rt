@@ -35,8 +35,11 @@ pub(crate) fn find_record(list: Waiting, bytes: &[u8], at: usize) -> Option<usiz
     requires { at ≤ length bytes.now }
     ensures { result ≡ found_at list bytes.now at }
 {
-    let First::Whole { start, end } = read_record(&bytes[at..]) else {
-        return None;
-    };
-    belongs(list, byte_at(bytes, at + start) % 16).then_some(at + end)
+    match read_record(&bytes[at..]) {
+        First::Empty => None,
+        First::Bad => None,
+        First::Whole { start, end } => {
+            belongs(list, byte_at(bytes, at + start) % 16).then_some(at + end)
+        }
+    }
 }
